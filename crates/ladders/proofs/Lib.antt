@@ -1,0 +1,4 @@
+pub mod Sets
+pub mod Everywhere
+pub mod Laws
+pub mod Fills

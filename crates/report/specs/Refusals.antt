@@ -1,0 +1,15 @@
+-- The number and the figures of every refusal of an input.
+use mathlib.Core.List.{List, [], _∷_}
+use Prim.Native.Nat.{ℕ}
+use Rattle.rulefile.specs.Faults.{number, kindOf, placeOf}
+use Rattle.report.specs.declared.refusal.Refusal.{Refusal}
+use Rattle.report.specs.declared.refusal.Refusal.the-variants.{File, TooLong}
+
+abbrev pub numberOf : Refusal → ℕ
+numberOf (File f) = number (kindOf f)
+numberOf TooLong = 10
+
+-- A fault of the file has its line and its offset, and an input that is too long has no figure.
+abbrev pub figuresOf : Refusal → List ℕ
+figuresOf (File f) = placeOf f .line ∷ (placeOf f .offset ∷ [])
+figuresOf TooLong = []

@@ -1,0 +1,50 @@
+// Why an input is refused.
+ghost use mathlib.Core.Path.{_≡_};
+ghost use lib.ListN.{take};
+ghost use Rattle.report.specs.Refusals.{numberOf, figuresOf};
+ghost use Rattle.report.specs.declared.refusal.Refusal.the-variants.{File};
+use rulefile::FileFault;
+use rulefile::FileFaultDebug;
+use rulefile::FileFaultEq;
+use rulefile::FileFaultPartialEq;
+
+#[derive(Clone, Copy, Debug, PartialEq, Eq)]
+pub enum Refusal {
+    // the rule file is at fault
+    File(FileFault),
+    // the input is longer than 32,768 bytes
+    TooLong,
+}
+
+pub impl From<FileFault> for Refusal as RefusalFromFile {
+    ghost converts = { λ e r. r ≡ File e };
+
+    fn from(e: FileFault) -> Refusal {
+        Refusal::File(e)
+    }
+}
+
+impl Refusal {
+    // The number under which the refusal is known.
+    pub fn number(&self) -> u8
+        ensures { λ r. ⌜ r ≡ numberOf (now (self .entry)) ⌝ }
+    {
+        match self {
+            Refusal::File(fault) => fault.number(),
+            Refusal::TooLong => 10,
+        }
+    }
+
+    // Its figures, and how many they are: the line and the offset of a fault.
+    pub fn figures(&self) -> ([usize; 2], usize)
+        ensures { λ r. ⌜ take (r .1) (r .0) ≡ figuresOf (now (self .entry)) ⌝ }
+    {
+        match self {
+            Refusal::File(fault) => {
+                let place = fault.place();
+                ([place.line, place.offset], 2)
+            }
+            Refusal::TooLong => ([0; 2], 0),
+        }
+    }
+}

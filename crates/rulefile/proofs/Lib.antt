@@ -1,0 +1,9 @@
+pub mod Spelling
+pub mod Drafts
+pub mod Places
+pub mod ItemLaw
+pub mod LineLaw
+pub mod Walk
+pub mod HeadLaw
+pub mod Readings
+pub mod FileLaw
