@@ -1,4 +1,5 @@
 // Checking an input: it is a rule file on the house ladder, or is refused.
+ghost use Rattle.rulefile.specs.Files.{OneReading, EveryRule};
 ghost use Rattle.report.specs.Inputs.{Checked};
 use crate::refusal::Refusal;
 use crate::refusal::RefusalFromFile;
@@ -22,9 +23,11 @@ pub struct Summary {
     pub lines: usize,
 }
 
-// Reads the input into the slots.
+// Reads the input into the slots, as a rule file on the house ladder.
 pub fn check_input(input: &[u8], slots: &mut [Rule]) -> Result<Summary, Refusal>
-    ensures { λ r. ⌜ Checked (now (input .entry)) (now (slots .entry)) r (now (slots .exit)) ⌝ }
+    ensures answer { λ r. ⌜ Checked (now (input .entry)) (now (slots .entry)) r (now (slots .exit)) ⌝ }
+    ensures once { λ _. ⌜ OneReading 8 (now (input .entry)) ⌝ }
+    ensures lawful { λ _. ⌜ EveryRule 8 ⌝ }
 {
     if input.len() > LONGEST {
         return Err(Refusal::TooLong);

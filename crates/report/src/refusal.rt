@@ -1,6 +1,6 @@
 // Why an input is refused.
 ghost use mathlib.Core.Path.{_≡_};
-ghost use lib.ListN.{take};
+ghost use lib.ListN.{length, take};
 ghost use Rattle.report.specs.Refusals.{numberOf, figuresOf};
 ghost use Rattle.report.specs.declared.refusal.Refusal.the-variants.{File};
 use rulefile::FileFault;
@@ -37,7 +37,8 @@ impl Refusal {
 
     // Its figures, and how many they are: the line and the offset of a fault.
     pub fn figures(&self) -> ([usize; 2], usize)
-        ensures { λ r. ⌜ take (r .1) (r .0) ≡ figuresOf (now (self .entry)) ⌝ }
+        ensures figures { λ r. ⌜ take (r .1) (r .0) ≡ figuresOf (now (self .entry)) ⌝ }
+        ensures count { λ r. ⌜ r .1 ≡ length (figuresOf (now (self .entry))) ⌝ }
     {
         match self {
             Refusal::File(fault) => {

@@ -120,8 +120,25 @@ module _ (posts : ℕ) (file : List ℕ) (slots slots′ : List Rule) (first : S
   same-head first′ rest′ letter′ n′ l h =
       head-one (first .bytes) letter′ letter n′ n (subst (λ s. Head (s .bytes) letter′ n′) (same-lines first′ rest′ l .0) h) head
 
+  -- Where the lines after the head say rules that have slots, no place is at fault.
+  sound : (ts : List Rule) → Say (grammar letter n posts) rest ts → length ts ≤ length slots → (q : Place) (kind : Kind) → FaultAt posts file (length slots) q kind → ⊥
+  sound ts says few q kind (inl (w, (at, h))) = subst NoHead (lines-one 1 0 file (h .0) (first ∷ rest) (h .1 .0) lines) (h .1 .1) letter n head
+  sound ts says few q kind (inr i) =
+      let r = same-lines (i .first) (i .rest) (i .lines) .1 in
+      let h = same-head (i .first) (i .rest) (i .letter) (i .conditions) (i .lines) (i .head) in
+      let theirs : Say (grammar (i .letter) (i .conditions) posts) (i .rest) ts =
+              subst (λ ls. Say (grammar (i .letter) (i .conditions) posts) ls ts) (sym r) (subst (λ k. Say (grammar (i .letter) k posts) rest ts) (sym (h .1)) (subst (λ l. Say (grammar l n posts) rest ts) (sym (h .0)) says)) in
+      let (t, sp) = say-line (i .before) (i .line) theirs (i .here) (i .loud) in
+      let less = rule-lines-less (i .rest) (i .before) (i .line) (i .here) (i .loud) in
+      let count = say-count theirs in
+      faultless (grammar (i .letter) (i .conditions) posts) (ltb (ruleLines (take (i .before) (i .rest))) (length slots)) (i .line .bytes) t (i .byte) kind sp
+      (lt-ltb (ruleLines (take (i .before) (i .rest))) (length slots) (omega arith)) (i .fault)
+
   pub listed : (count : ℕ) → RestSays (grammar letter n posts) rest slots (Ok count) slots′ → Answers posts file slots (Ok (record { letter = letter; conditions = n; rules = count })) slots′
-  listed count (ts, (s, (c, (few, left)))) = (ts, (record { first = first; rest = rest; lines = lines; head = head; says = s }, (c, (few, left))))
+  listed count (ts, (s, (c, (few, left)))) = (
+    sound ts s few,
+    (ts, (record { first = first; rest = rest; lines = lines; head = head; says = s }, (c, (few, left)))),
+  )
 
   module _ (f : FileFault) (s : Stopped (grammar letter n posts) rest slots f slots′) where
     counted : ruleLines (take (s .m) rest) ≡ length (s .ts)

@@ -107,12 +107,14 @@ pub record SaidBefore (posts : ℕ) (file : List ℕ) (k : ℕ) (ts : List Rule)
 abbrev pub filled : List Rule → List Rule → List Rule
 filled ts slots = ts ++ drop (length ts) slots
 
--- What reading the file into the slots answers, and what it leaves in them.
+-- What reading the file into the slots answers, and what it leaves in them. A list comes exactly where no place is at fault, which is where
+-- the file is by the grammar and its rules are no more than the slots.
 abbrev pub Answers : ℕ → List ℕ → List Rule → Result Listing FileFault → List Rule → Type 0
 Answers posts file slots (Ok l) slots′ =
-    (ts : List Rule)
+    ((q : Place) (kind : Kind) → FaultAt posts file (length slots) q kind → ⊥)
+    × ((ts : List Rule)
     × (ByGrammar posts file (l .letter) (l .conditions) ts
-    × ((l .rules ≡ length ts) × ((length ts ≤ length slots) × (slots′ ≡ filled ts slots))))
+    × ((l .rules ≡ length ts) × ((length ts ≤ length slots) × (slots′ ≡ filled ts slots)))))
 Answers posts file slots (Err f) slots′ =
     FirstAt posts file (length slots) (placeOf f) (kindOf f)
     × (((letter : Letter) (n : ℕ) (ts : List Rule) → ByGrammar posts file letter n ts → length ts ≤ length slots → ⊥)

@@ -11,7 +11,7 @@ pub struct Request {
 }
 
 impl Request {
-    // The request of a number, with n conditions, on a ladder of eight posts.
+    // The request of a number, with n conditions; none where n is above 9, or where no ladder, having at most eight posts, has such a request.
     pub fn numbered(n: u8, number: usize) -> Option<Request>
         ensures { λ r. ⌜ r ≡ numberedOf n number ⌝ }
     {
@@ -21,7 +21,8 @@ impl Request {
         Some(unpacked(n, number))
     }
 
-    // The number of this request, with n conditions.
+    // The number of this request, with n conditions; none where n is above 9, or the set has a condition that is none of the n. Whether
+    // the post is one of the ladder's is not asked.
     pub fn number(&self, n: u8) -> Option<usize>
         ensures { λ r. ⌜ r ≡ numberOf n (now (self .entry)) ⌝ }
     {
