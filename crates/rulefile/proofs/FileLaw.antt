@@ -127,7 +127,7 @@ module _ (posts : ℕ) (file : List ℕ) (slots slots′ : List Rule) (first : S
       let r = same-lines (i .first) (i .rest) (i .lines) .1 in
       let h = same-head (i .first) (i .rest) (i .letter) (i .conditions) (i .lines) (i .head) in
       let theirs : Say (grammar (i .letter) (i .conditions) posts) (i .rest) ts =
-              subst (λ ls. Say (grammar (i .letter) (i .conditions) posts) ls ts) (sym r) (subst (λ k. Say (grammar (i .letter) k posts) rest ts) (sym (h .1)) (subst (λ l. Say (grammar l n posts) rest ts) (sym (h .0)) says)) in
+      subst (λ ls. Say (grammar (i .letter) (i .conditions) posts) ls ts) (sym r) (subst (λ k. Say (grammar (i .letter) k posts) rest ts) (sym (h .1)) (subst (λ l. Say (grammar l n posts) rest ts) (sym (h .0)) says)) in
       let (t, sp) = say-line (i .before) (i .line) theirs (i .here) (i .loud) in
       let less = rule-lines-less (i .rest) (i .before) (i .line) (i .here) (i .loud) in
       let count = say-count theirs in

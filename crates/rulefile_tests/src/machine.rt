@@ -167,7 +167,7 @@ fn take(m: Machine, b: u8) -> Result<Machine, u8> {
 }
 
 // The line that a byte stands in.
-pub fn line_at(file: &[u8], offset: usize) -> usize {
+pub(crate) fn line_at(file: &[u8], offset: usize) -> usize {
     let mut line = 1usize;
     for b in file.iter().take(offset) {
         if *b == b'\n' {
@@ -178,7 +178,7 @@ pub fn line_at(file: &[u8], offset: usize) -> usize {
 }
 
 // The answer, and what the slots then hold. A byte 10 after the last one changes nothing, or ends the last line.
-pub fn run(posts: usize, room: usize, file: &[u8]) -> (Answer, [Rule; SLOTS]) {
+pub(crate) fn run(posts: usize, room: usize, file: &[u8]) -> (Answer, [Rule; SLOTS]) {
     let mut m = Machine {
         due: Due::Letter,
         letter: 0,

@@ -58,37 +58,38 @@ const PIECES: [&[u8]; 32] = [
 ];
 
 // A linear congruential generator, of which the high bits are used.
-fn next(seed: u64) -> u64 {
-    seed.wrapping_mul(6364136223846793005)
+fn next(state: u64) -> u64 {
+    state
+        .wrapping_mul(6364136223846793005)
         .wrapping_add(1442695040888963407)
 }
 
 // A number below 32.
-fn pick(seed: u64) -> usize {
-    (seed >> 59) as usize
+fn pick(state: u64) -> usize {
+    (state >> 59) as usize
 }
 
-// Writes a random file, and answers the seed for the next.
-fn write_file(seed: u64, file: &mut Vec<u8>) -> Result<u64, AllocError> {
+// Writes a random file, and answers the state for the next.
+fn write_file(state: u64, file: &mut Vec<u8>) -> Result<u64, AllocError> {
     file.clear();
-    let mut seed = next(seed);
-    file.extend_from_slice(HEADS[pick(seed) % 8])?;
-    seed = next(seed);
-    for _ in 0..pick(seed) % 16 {
-        seed = next(seed);
-        file.extend_from_slice(PIECES[pick(seed) % 32])?;
+    let mut state = next(state);
+    file.extend_from_slice(HEADS[pick(state) % 8])?;
+    state = next(state);
+    for _ in 0..pick(state) % 16 {
+        state = next(state);
+        file.extend_from_slice(PIECES[pick(state) % 32])?;
     }
-    Ok(seed)
+    Ok(state)
 }
 
 // The answers and all the slots are compared. Of the files, 256 at least are granted, and 256 at least have each of the faults.
 #[test]
 fn reader_and_machine_agree(rt: LibcRuntime) -> Result<(), Fail> {
     let mut file = Vec::new(rt.alloc());
-    let mut seed = 1;
+    let mut state = 1;
     let mut met = [0usize; 8];
     for i in 0..FILES {
-        seed = write_file(seed, &mut file)?;
+        state = write_file(state, &mut file)?;
         let posts = 1 + i % 8;
         let room = i / 8 % 5;
         let mut slots = [OLD_RULE; SLOTS];

@@ -28,7 +28,7 @@ pub const OLD_RULE: Rule = Rule {
     barred_posts: 255,
 };
 
-pub fn shape(rule: Rule) -> Shape {
+pub(crate) fn shape(rule: Rule) -> Shape {
     let mark = match rule.effect {
         Effect::Permit => '+',
         Effect::Deny => '-',
@@ -42,7 +42,7 @@ pub fn shape(rule: Rule) -> Shape {
     )
 }
 
-pub fn answer(read: Result<Listing, FileFault>) -> Answer {
+pub(crate) fn answer(read: Result<Listing, FileFault>) -> Answer {
     match read {
         Ok(list) => Ok((list.letter.symbol(), list.conditions, list.rules)),
         Err(fault) => {
@@ -53,7 +53,7 @@ pub fn answer(read: Result<Listing, FileFault>) -> Answer {
 }
 
 // Reads on a ladder of so many posts: of eight the house ladder, else a rank ladder.
-pub fn read_on(posts: usize, file: &[u8], slots: &mut [Rule]) -> Answer {
+pub(crate) fn read_on(posts: usize, file: &[u8], slots: &mut [Rule]) -> Answer {
     if posts == 8 {
         answer(read(file, &House, slots))
     } else {
@@ -62,13 +62,13 @@ pub fn read_on(posts: usize, file: &[u8], slots: &mut [Rule]) -> Answer {
 }
 
 // Reads into the first slots only, and not into more than there are.
-pub fn read_into(posts: usize, room: usize, file: &[u8], slots: &mut [Rule]) -> Answer {
+pub(crate) fn read_into(posts: usize, room: usize, file: &[u8], slots: &mut [Rule]) -> Answer {
     let lent = room.min(slots.len());
     read_on(posts, file, &mut slots[0..lent])
 }
 
 // The rules stand in the first slots, and the other slots hold what they held.
-pub fn check_slots(slots: &[Rule], rules: &[Shape]) -> Result<(), Fail> {
+pub(crate) fn check_slots(slots: &[Rule], rules: &[Shape]) -> Result<(), Fail> {
     check(rules.len() <= slots.len())?;
     for (i, slot) in slots.iter().enumerate() {
         let due = rules.get(i).copied().unwrap_or(OLD);
