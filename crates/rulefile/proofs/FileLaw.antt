@@ -88,6 +88,10 @@ nth-take (l ∷ ls) a zero h = absurd (omega arith)
 nth-take (l ∷ ls) zero (suc m) h = refl
 nth-take (l ∷ ls) (suc a) (suc m) h = nth-take ls a m (omega arith)
 
+say-moved : {posts n n′ : ℕ} {letter letter′ : Letter} {ls ls′ : List Span} {ts : List Rule} → letter ≡ letter′ → n ≡ n′ → ls ≡ ls′ → Say (grammar letter n posts) ls ts → Say (grammar letter′ n′ posts) ls′ ts
+say-moved {posts} {n′ = n′} {letter = letter} {letter′ = letter′} {ls = ls} {ts = ts} l k r s =
+    subst (λ xs. Say (grammar letter′ n′ posts) xs ts) r (subst (λ a. Say (grammar a n′ posts) ls ts) l (subst (λ m. Say (grammar letter m posts) ls ts) k s))
+
 -- The number of a fault is at least 1.
 one : (kind : Kind) → 1 ≤ number kind
 one wrong-head = omega arith
@@ -126,8 +130,7 @@ module _ (posts : ℕ) (file : List ℕ) (slots slots′ : List Rule) (first : S
   sound ts says few q kind (inr i) =
       let r = same-lines (i .first) (i .rest) (i .lines) .1 in
       let h = same-head (i .first) (i .rest) (i .letter) (i .conditions) (i .lines) (i .head) in
-      let theirs : Say (grammar (i .letter) (i .conditions) posts) (i .rest) ts =
-      subst (λ ls. Say (grammar (i .letter) (i .conditions) posts) ls ts) (sym r) (subst (λ k. Say (grammar (i .letter) k posts) rest ts) (sym (h .1)) (subst (λ l. Say (grammar l n posts) rest ts) (sym (h .0)) says)) in
+      let theirs : Say (grammar (i .letter) (i .conditions) posts) (i .rest) ts = say-moved (sym (h .0)) (sym (h .1)) (sym r) says in
       let (t, sp) = say-line (i .before) (i .line) theirs (i .here) (i .loud) in
       let less = rule-lines-less (i .rest) (i .before) (i .line) (i .here) (i .loud) in
       let count = say-count theirs in
@@ -222,8 +225,7 @@ module _ (posts : ℕ) (file : List ℕ) (slots slots′ : List Rule) (first : S
     unlisted letter′ n′ ts b few =
         let r = same-lines (b .first) (b .rest) (b .lines) .1 in
         let h = same-head (b .first) (b .rest) letter′ n′ (b .lines) (b .head) in
-        let says : Say (grammar letter n posts) rest ts =
-        subst (λ ls. Say (grammar letter n posts) ls ts) r (subst (λ k. Say (grammar letter k posts) (b .rest) ts) (h .1) (subst (λ l. Say (grammar l n′ posts) (b .rest) ts) (h .0) (b .says))) in
+        let says : Say (grammar letter n posts) rest ts = say-moved (h .0) (h .1) r (b .says) in
         let (t, sp) = say-line (s .m) (s .line) says (s .here) (s .loud) in
         let less = rule-lines-less rest (s .m) (s .line) (s .here) (s .loud) in
         let c = counted in
@@ -267,8 +269,7 @@ pub one-reading : (posts : ℕ) (file : List ℕ) → OneReading posts file
 one-reading posts file letter letter′ n n′ ts ts′ b c =
     let r = same-lines posts file [] [] (c .first) (c .rest) letter′ n′ (c .lines) (c .head) (b .first) (b .rest) (b .lines) .1 in
     let h = same-head posts file [] [] (c .first) (c .rest) letter′ n′ (c .lines) (c .head) (b .first) (b .rest) letter n (b .lines) (b .head) in
-    let says : Say (grammar letter′ n′ posts) (c .rest) ts =
-    subst (λ ls. Say (grammar letter′ n′ posts) ls ts) r (subst (λ k. Say (grammar letter′ k posts) (b .rest) ts) (h .1) (subst (λ l. Say (grammar l n posts) (b .rest) ts) (h .0) (b .says))) in
+    let says : Say (grammar letter′ n′ posts) (c .rest) ts = say-moved (h .0) (h .1) r (b .says) in
     (h .0, (h .1, say-one says (c .says)))
 
 -- No byte of a head, a mark or an item ends a line.
@@ -331,7 +332,7 @@ pub no-line : (file : List ℕ) → length file ≤ 0 → Headless file
 no-line file h = ([], (lines-end file 1 0 0 h, tt))
 
 -- The first line that a new reader hands out is line 1, and the lines ahead of it then are the others.
-module _ (file lent : RefT (List ℕ)) (read at : ℕ) (l : Line) (read′ at′ : ℕ) (same : lent ≡ file) (unread : read ≡ 0) (begins : at ≡ 0) (step : Stepped lent read at l read′ at′) where
+module _ {file lent : RefT (List ℕ)} {read at : ℕ} {l : Line} {read′ at′ : ℕ} (same : lent ≡ file) (unread : read ≡ 0) (begins : at ≡ 0) (step : Stepped lent read at l read′ at′) where
   pub others : List Span
   others = lines-some (read′ + 1) at′ (drop at′ (file .now)) .0
 

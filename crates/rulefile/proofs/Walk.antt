@@ -56,14 +56,11 @@ pub record Sofar (g : Grammar) (file : List ℕ) (ls : List Span) (slots : List 
   pub few : length ts ≤ length slots
   pub holds : held ≡ filled ts slots
 
-pub sofar-none : (g : Grammar) (file : List ℕ) (ls : List Span) (slots : List Rule) (read at : ℕ) → Lines (read + 1) at (drop at file) ls → Sofar g file ls slots read at 0 slots
-sofar-none g file ls slots read at h =
+pub sofar-none : {g : Grammar} (file : List ℕ) {ls : List Span} {slots : List Rule} {read at : ℕ} → Lines (read + 1) at (drop at file) ls → Sofar g file ls slots read at 0 slots
+sofar-none file {ls} h =
     record { before = []; ahead = ls; ts = []; split = refl; rest = h; said = nothing; counted = refl; few = omega arith; holds = refl }
 
-module _ (g : Grammar) (file : List ℕ) (ls : List Span) (slots : List Rule) (read at count : ℕ) (held : List Rule) (lent : RefT (List ℕ)) (l : Line) (read′ at′ : ℕ) (same : lent .now ≡ file) (s : Sofar g file ls slots read at count held) (step : Stepped lent read at l read′ at′) where
-  line : Span
-  line = span (read + 1) at (l .bytes .now)
-
+module _ {g : Grammar} {file : List ℕ} {ls : List Span} {slots : List Rule} {read at count : ℕ} {held : List Rule} {lent : RefT (List ℕ)} {l : Line} {read′ at′ : ℕ} (same : lent .now ≡ file) (s : Sofar g file ls slots read at count held) (step : Stepped lent read at l read′ at′) where
   first-here : FirstLine (drop at file) (l .bytes .now) (drop at′ file)
   first-here = subst (λ f. FirstLine (drop at f) (l .bytes .now) (drop at′ f)) same (step .first)
 
@@ -132,8 +129,8 @@ module _ (g : Grammar) (file : List ℕ) (ls : List Span) (slots : List Rule) (r
         first = subst (λ b. FirstFault g b (l .bytes .now) j (kindOf f)) (r ∙ ap (λ n. ltb n (length slots)) (s .counted)) first;
       }
 
-pub sofar-all : (g : Grammar) (file : List ℕ) (ls : List Span) (slots : List Rule) (read at count : ℕ) (held : List Rule) → Sofar g file ls slots read at count held → length file ≤ at → RestSays g ls slots (Ok count) held
-sofar-all g file ls slots read at count held s h =
+pub sofar-all : {g : Grammar} {file : List ℕ} {ls : List Span} {slots : List Rule} {read at count : ℕ} {held : List Rule} → Sofar g file ls slots read at count held → length file ≤ at → RestSays g ls slots (Ok count) held
+sofar-all {g} {file} {ls} {slots} {read} {at} s h =
     let none : s .ahead ≡ [] = lines-one (read + 1) at (drop at file) (s .ahead) [] (s .rest) (lines-end file (read + 1) at at h) in
     let whole : ls ≡ s .before = s .split ∙ ap (λ ms. s .before ++ ms) none ∙ append-nil (s .before) in
     (s .ts, (subst (λ xs. Say g xs (s .ts)) (sym whole) (s .said), (s .counted, (s .few, s .holds))))

@@ -17,6 +17,9 @@ use rules::Effect;
 use rules::Letter;
 use rules::Rule;
 
+// A line that begins with it says nothing.
+const COMMENT: char = '#';
+
 // The effect that a rule's mark stands for. A guarded list has no deny rules.
 fn read_mark(mark: u8, grammar: Grammar, place: Place) -> Result<Effect, LineFault>
     ensures { λ r. ⌜ r ≡ markRead grammar mark place ⌝ }
@@ -39,7 +42,7 @@ pub(crate) fn read_line(line: Line, grammar: Grammar, room: bool) -> Result<Opti
     let [mark, rest @ ..] = line.bytes else {
         return Ok(None);
     };
-    if *mark as char == '#' {
+    if *mark as char == COMMENT {
         return Ok(None);
     }
     let effect = read_mark(*mark, grammar, line.place)?;

@@ -21,8 +21,7 @@ returns-in-rest-read-head g c =
     record {
       answer =
           headless (g .L·Ladder .posts (c .args .ladder .now)) (c .args .file .now) (c .args .slots .now)
-          (wrong-first (c .args .file) (c .new-reader .result .file) (c .new-reader .result .read) (c .new-reader .result .at) (c .in-Some .line) (c .next-line .last .self .read) (c .next-line .last .self .at)
-          (c .new-reader .ensures .file) (c .new-reader .ensures .read) (c .new-reader .ensures .at) (c .in-Some .ensures tt .next) (c .in-rest-read-head .ensures tt));
+          (wrong-first (c .new-reader .ensures .file) (c .new-reader .ensures .read) (c .new-reader .ensures .at) (c .in-Some .ensures tt .next) (c .in-rest-read-head .ensures tt));
       once = one-reading (g .L·Ladder .posts (c .args .ladder .now)) (c .args .file .now);
       lawful = every-rule (g .L·Ladder .posts (c .args .ladder .now));
     }
@@ -33,8 +32,7 @@ returns-in-Break-rules g c =
     rw (p .1, p .2)
     (record {
       answer =
-          answered (c .args .file) (c .new-reader .result .file) (c .new-reader .result .read) (c .new-reader .result .at) (c .in-Some .line) (c .next-line .last .self .read) (c .next-line .last .self .at)
-          (c .new-reader .ensures .file) (c .new-reader .ensures .read) (c .new-reader .ensures .at) (c .in-Some .ensures tt .next)
+          answered (c .new-reader .ensures .file) (c .new-reader .ensures .read) (c .new-reader .ensures .at) (c .in-Some .ensures tt .next)
           (g .L·Ladder .posts (c .args .ladder .now)) (c .count .result) (c .args .slots .now) (c .read-rules .last .slots) (c .in-Some-read-head .letter) (c .in-Some-read-head .conditions) (c .next-line .last .self .file) (Err (c .in-Break-rules .field-0 .0))
           (c .in-Some-read-head .ensures tt) (c .count .ensures) (c .next-line .ensures .same) (c .in-Break-rules .ensures tt);
       once = one-reading (g .L·Ladder .posts (c .args .ladder .now)) (c .args .file .now);
@@ -45,8 +43,7 @@ pub returns : need.returns
 returns g c =
     record {
       answer =
-          answered (c .args .file) (c .new-reader .result .file) (c .new-reader .result .read) (c .new-reader .result .at) (c .in-Some .line) (c .next-line .last .self .read) (c .next-line .last .self .at)
-          (c .new-reader .ensures .file) (c .new-reader .ensures .read) (c .new-reader .ensures .at) (c .in-Some .ensures tt .next)
+          answered (c .new-reader .ensures .file) (c .new-reader .ensures .read) (c .new-reader .ensures .at) (c .in-Some .ensures tt .next)
           (g .L·Ladder .posts (c .args .ladder .now)) (c .count .result) (c .args .slots .now) (c .read-rules .last .slots) (c .in-Some-read-head .letter) (c .in-Some-read-head .conditions) (c .next-line .last .self .file) (Ok (c .in-Continue-rules .rules))
           (c .in-Some-read-head .ensures tt) (c .count .ensures) (c .next-line .ensures .same) (c .in-Continue-rules .ensures tt);
       once = one-reading (g .L·Ladder .posts (c .args .ladder .now)) (c .args .file .now);

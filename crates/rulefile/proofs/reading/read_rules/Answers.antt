@@ -13,18 +13,14 @@ use Rattle.rulefile.proofs.Walk.{sofar-none, sofar-silent, sofar-rule, sofar-s
 use Rattle.rulefile.proofs.reading.read_rules.Needs as need
 
 pub loop-line-holds : need.loop-line-holds
-loop-line-holds c = (
-  refl,
-  (omega arith, λ ls h. sofar-none (c .args .grammar) (c .args .reader .now .file .now) ls (c .args .slots .now) (c .args .reader .now .read) (c .args .reader .now .at) h),
-)
+loop-line-holds c = (refl, (omega arith, λ ls h. sofar-none (c .args .reader .now .file .now) h))
 
 pub returns-in-Break-rule : need.returns-in-Break-rule
 returns-in-Break-rule c =
     let p = err-from-errBy (c .from-residual .result) (c .from-residual .ensures .1) in
     rw (p .1, p .2)
     (λ ls h.
-    sofar-stopped (c .args .grammar) (c .args .reader .now .file .now) ls (c .args .slots .now) (c .loop-line .reader .read) (c .loop-line .reader .at) (c .loop-line .count) (c .loop-line .slots)
-    (c .loop-line .reader .file) (c .in-Some .line) (c .next-line .last .self .read) (c .next-line .last .self .at) (ap (λ f. f .now) (c .loop-line .inv .0)) (c .loop-line .inv .1 .1 ls h) (c .in-Some .ensures tt .next)
+    sofar-stopped (ap (λ f. f .now) (c .loop-line .inv .0)) (c .loop-line .inv .1 .1 ls h) (c .in-Some .ensures tt .next)
     (c .in-Break-rule .field-0 .0) (ltb (c .loop-line .count) (length (c .loop-line .slots))) (ap (ltb (c .loop-line .count)) (c .loop-line .kept .slots)) (c .in-Break-rule .ensures tt))
 
 pub loop-line-again-in-Some-2 : need.loop-line-again-in-Some-2
@@ -36,9 +32,7 @@ loop-line-again-in-Some-2 c =
       (
         simp length-set (omega arith),
         λ ls h.
-            sofar-rule (c .args .grammar) (c .args .reader .now .file .now) ls (c .args .slots .now) (c .loop-line .reader .read) (c .loop-line .reader .at) (c .loop-line .count) (c .loop-line .slots)
-            (c .loop-line .reader .file) (c .in-Some .line) (c .next-line .last .self .read) (c .next-line .last .self .at) (ap (λ f. f .now) (c .loop-line .inv .0)) (c .loop-line .inv .1 .1 ls h) (c .in-Some .ensures tt .next)
-            (c .in-Some-2 .rule) (says .1 .1) (omega arith),
+            sofar-rule (ap (λ f. f .now) (c .loop-line .inv .0)) (c .loop-line .inv .1 .1 ls h) (c .in-Some .ensures tt .next) (c .in-Some-2 .rule) (says .1 .1) (omega arith),
       ),
     )
 
@@ -48,8 +42,7 @@ loop-line-again c = (
   (
     c .loop-line .inv .1 .0,
     λ ls h.
-        sofar-silent (c .args .grammar) (c .args .reader .now .file .now) ls (c .args .slots .now) (c .loop-line .reader .read) (c .loop-line .reader .at) (c .loop-line .count) (c .loop-line .slots)
-        (c .loop-line .reader .file) (c .in-Some .line) (c .next-line .last .self .read) (c .next-line .last .self .at) (ap (λ f. f .now) (c .loop-line .inv .0)) (c .loop-line .inv .1 .1 ls h) (c .in-Some .ensures tt .next)
+        sofar-silent (ap (λ f. f .now) (c .loop-line .inv .0)) (c .loop-line .inv .1 .1 ls h) (c .in-Some .ensures tt .next)
         (subst (λ o. LineSays (c .args .grammar) (ltb (c .loop-line .count) (length (c .loop-line .slots))) (c .in-Some .line .place) (c .in-Some .line .bytes .now) (Ok o)) (c .in-rest-2 .is) (c .in-Continue-rule .ensures tt)),
   ),
 )
@@ -57,6 +50,4 @@ loop-line-again c = (
 pub returns : need.returns
 returns c =
     λ ls h.
-    let long = ap (λ f. length (f .now)) (c .loop-line .inv .0) in
-    let end = c .in-rest .ensures tt .next .0 in
-    sofar-all (c .args .grammar) (c .args .reader .now .file .now) ls (c .args .slots .now) (c .loop-line .reader .read) (c .loop-line .reader .at) (c .loop-line .count) (c .loop-line .slots) (c .loop-line .inv .1 .1 ls h) (omega arith)
+    let long = ap (λ f. length (f .now)) (c .loop-line .inv .0) in let end = c .in-rest .ensures tt .next .0 in sofar-all (c .loop-line .inv .1 .1 ls h) (omega arith)

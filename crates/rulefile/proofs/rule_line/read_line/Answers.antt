@@ -33,23 +33,23 @@ returns-in-Break-effect c =
     let p = err-from-errBy (c .from-residual .result) (c .from-residual .ensures .1) in
     rw (p .1, p .2)
     (marked-line (c .args .grammar) (c .args .room) (c .args .line .place) (c .args .line .bytes .now) (Err (Line (c .in-Break-effect .field-0 .0))) (omega (arith, ltb-false))
-    (wrong-mark (c .args .grammar) (c .args .room) (c .args .line .place) (getD (c .args .line .bytes .now) 0 0) _ (ne-eqb (getD (c .args .line .bytes .now) 0 0) 35 (c .if-mark-eq35 .left)) (c .in-Break-effect .field-0 .0) (sym (c .in-Break-effect .ensures tt))))
+    (wrong-mark (c .args .grammar) (c .args .room) (c .args .line .place) (getD (c .args .line .bytes .now) 0 0) _ (ne-eqb (getD (c .args .line .bytes .now) 0 0) 35 (c .if-mark-eq-COMMENT .left)) (c .in-Break-effect .field-0 .0) (sym (c .in-Break-effect .ensures tt))))
 
 pub returns-then-not-room : need.returns-then-not-room
 returns-then-not-room c =
     marked-line (c .args .grammar) (c .args .room) (c .args .line .place) (c .args .line .bytes .now) (Err (NoSlot (c .args .line .place))) (omega (arith, ltb-false))
-    (slotless (c .args .grammar) (c .args .room) (c .args .line .place) (getD (c .args .line .bytes .now) 0 0) _ (ne-eqb (getD (c .args .line .bytes .now) 0 0) 35 (c .if-mark-eq35 .left)) (c .in-Continue-effect .effect) (sym (c .in-Continue-effect .ensures tt)) (c .if-not-room .taken))
+    (slotless (c .args .grammar) (c .args .room) (c .args .line .place) (getD (c .args .line .bytes .now) 0 0) _ (ne-eqb (getD (c .args .line .bytes .now) 0 0) 35 (c .if-mark-eq-COMMENT .left)) (c .in-Continue-effect .effect) (sym (c .in-Continue-effect .ensures tt)) (c .if-not-room .taken))
 
 pub returns-in-Break-rule : need.returns-in-Break-rule
 returns-in-Break-rule c =
     let p = err-from-errBy (c .from-residual-in-Break-rule .result) (c .from-residual-in-Break-rule .ensures .1) in
     rw (p .1, p .2)
     (marked-line (c .args .grammar) (c .args .room) (c .args .line .place) (c .args .line .bytes .now) (Err (Line (c .in-Break-rule .field-0 .0))) (omega (arith, ltb-false))
-    (itemed-line (c .args .grammar) (c .args .room) (c .args .line .place) (getD (c .args .line .bytes .now) 0 0) _ (ne-eqb (getD (c .args .line .bytes .now) 0 0) 35 (c .if-mark-eq35 .left)) (c .in-Continue-effect .effect) (Err (c .in-Break-rule .field-0 .0)) (sym (c .in-Continue-effect .ensures tt)) (c .if-not-room .left)
+    (itemed-line (c .args .grammar) (c .args .room) (c .args .line .place) (getD (c .args .line .bytes .now) 0 0) _ (ne-eqb (getD (c .args .line .bytes .now) 0 0) 35 (c .if-mark-eq-COMMENT .left)) (c .in-Continue-effect .effect) (Err (c .in-Break-rule .field-0 .0)) (sym (c .in-Continue-effect .ensures tt)) (c .if-not-room .left)
     (rw (c .new .ensures, c .next-place .ensures) at (c .in-Break-rule .ensures tt))))
 
 pub returns : need.returns
 returns c =
     marked-line (c .args .grammar) (c .args .room) (c .args .line .place) (c .args .line .bytes .now) (Ok (Some (c .in-Continue-rule .rule))) (omega (arith, ltb-false))
-    (itemed-line (c .args .grammar) (c .args .room) (c .args .line .place) (getD (c .args .line .bytes .now) 0 0) _ (ne-eqb (getD (c .args .line .bytes .now) 0 0) 35 (c .if-mark-eq35 .left)) (c .in-Continue-effect .effect) (Ok (c .in-Continue-rule .rule)) (sym (c .in-Continue-effect .ensures tt)) (c .if-not-room .left)
+    (itemed-line (c .args .grammar) (c .args .room) (c .args .line .place) (getD (c .args .line .bytes .now) 0 0) _ (ne-eqb (getD (c .args .line .bytes .now) 0 0) 35 (c .if-mark-eq-COMMENT .left)) (c .in-Continue-effect .effect) (Ok (c .in-Continue-rule .rule)) (sym (c .in-Continue-effect .ensures tt)) (c .if-not-room .left)
     (rw (c .new .ensures, c .next-place .ensures) at (c .in-Continue-rule .ensures tt)))
