@@ -1,8 +1,8 @@
 -- Which members a set has that is made by `&`, `|` and `!`.
 use mathlib.Core.Path.{_≡_, refl, sym, ap, subst, _∙_}
-use mathlib.Core.Bool.{false, not, _&&_, _||_}
+use mathlib.Core.Bool.{true, false, not, _&&_, _||_}
 use mathlib.Core.Logic.{_⊎_, inl, inr, ⊎-elim}
-use Prim.Native.Nat.{ℕ, _+_, _-_, _*_, _/_, _%_, _^_, _<_}
+use Prim.Native.Nat.{ℕ, _+_, _-_, _*_, _/_, _%_, _^_, _<_, _≤_}
 use native.Mathlib.Nat.{add-mul, mul-comm, div-eq-of-lt, div-one, zero-div}
 use native.Mathlib.Omega.{arith}
 use lib.Bits.{bitAnd, bitOr, and-shr, and-mod, or-shr, or-mod}
@@ -10,7 +10,7 @@ use lib.Dec.{eqb}
 use lib.Arith.{bin-ind}
 use lib.Pow.{pow-pos, pow-add}
 use Rattle.std.proofs.shelf.Bits.{shr-shr, shr-split, shr-below, shl-shr, mod-below, mod-mul-add, div-mul-add, div-add-mod', pow-below}
-use Rattle.std.proofs.shelf.Tests.{cases-order, eq-eqb, ne-eqb, false≢true}
+use Rattle.std.proofs.shelf.Tests.{and-right, cases-bool, cases-order, eq-eqb, ne-eqb, false≢true}
 use Rattle.ladders.specs.Sets.{holds}
 
 parity : (x : ℕ) → (x % 2 ≡ 0) ⊎ (x % 2 ≡ 1)
@@ -115,11 +115,11 @@ same-halves a b e f =
     (parity b))
     (parity a)
 
-zero-holds : (c : ℕ) → holds 0 c ≡ false
+pub zero-holds : (c : ℕ) → holds 0 c ≡ false
 zero-holds c = ap (λ x. eqb (x % 2) 1) (zero-div (2 ^ c))
 
 -- a set without members is 0
-no-members : (b : ℕ) → ((c : ℕ) → holds b c ≡ false) → b ≡ 0
+pub no-members : (b : ℕ) → ((c : ℕ) → holds b c ≡ false) → b ≡ 0
 no-members =
     bin-ind (λ (b : ℕ). ((c : ℕ) → holds b c ≡ false) → b ≡ 0) (λ h. refl)
     (λ b ih h. same-halves b 0 (ih (λ c. half-holds b c ∙ h (c + 1))) (h 0))
@@ -129,3 +129,34 @@ pub bits-same : (a b : ℕ) → ((c : ℕ) → holds a c ≡ holds b c) → a �
 bits-same =
     bin-ind (λ (a : ℕ). (b : ℕ) → ((c : ℕ) → holds a c ≡ holds b c) → a ≡ b) (λ b h. sym (no-members b (λ c. sym (h c) ∙ zero-holds c)))
     (λ a ih b h. same-halves a b (ih (b / 2) (λ c. half-holds a c ∙ h (c + 1) ∙ sym (half-holds b c))) (h 0))
+
+-- a set of numbers below k has no member from k on
+pub none-past : (a k c : ℕ) → a < 2 ^ k → k ≤ c → holds a c ≡ false
+none-past a k c h le = ap (λ x. eqb (x % 2) 1) (div-eq-of-lt (less (⊎-elim (λ (e : k ≡ c). inl e) (λ ne. inr (omega arith)) (cases-order k c))))
+  where
+    less : (k ≡ c) ⊎ (k < c) → a < 2 ^ c
+    less (inl e) = subst (λ j. a < 2 ^ j) e h
+    less (inr lt) = let p = pow-below k c lt in omega arith
+
+-- and a set whose members are all below k is below 2 ^ k
+pub all-below : (a k : ℕ) → ((c : ℕ) → holds a c ≡ true → c < k) → a / 2 ^ k ≡ 0
+all-below a k h =
+    no-members (a / 2 ^ k)
+    (λ c.
+    ⊎-elim
+    (λ (t : holds (a / 2 ^ k) c ≡ true).
+    let l = h (k + c) (ap (λ x. eqb (x % 2) 1) (sym (shr-shr a k c)) ∙ t) in absurd (omega arith))
+    (λ (t : holds (a / 2 ^ k) c ≡ false). t)
+    (cases-bool (holds (a / 2 ^ k) c)))
+
+-- sets that have no member in common
+pub and-none : (a b : ℕ) → ((c : ℕ) → holds a c ≡ true → holds b c ≡ false) → bitAnd a b ≡ 0
+and-none a b h =
+    no-members (bitAnd a b)
+    (λ c.
+    and-holds a b c
+    ∙ ⊎-elim (λ (t : holds a c ≡ true). ap (λ x. holds a c && x) (h c t) ∙ and-right (holds a c) false refl) (λ (t : holds a c ≡ false). ap (λ x. x && holds b c) t)
+    (cases-bool (holds a c)))
+
+pub none-and : (a b c : ℕ) → bitAnd a b ≡ 0 → holds a c ≡ true → holds b c ≡ false
+none-and a b c e t = ap (λ x. x && holds b c) (sym t) ∙ sym (and-holds a b c) ∙ ap (λ x. holds x c) e ∙ zero-holds c

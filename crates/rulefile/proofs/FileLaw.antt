@@ -281,15 +281,15 @@ text-unbroken : (b : Bool) (x : Name) → Known x → Unbroken (text b x)
 text-unbroken true x h = (λ e. omega arith, (λ e. omega arith, (name-unbroken x h, tt)))
 text-unbroken false x h = (λ e. omega arith, (name-unbroken x h, tt))
 
-items-unbroken : (is : List Item) → All (λ i. Known (i .name)) is → Unbroken (joined spelled is)
+pub items-unbroken : (is : List Item) → All (λ i. Known (i .name)) is → Unbroken (joined spelled is)
 items-unbroken [] h = tt
 items-unbroken (i ∷ is) h = all-append (λ b. b ≡ 10 → ⊥) (spelled i) (joined spelled is) (text-unbroken (i .barred) (i .name) (h .0)) (items-unbroken is (h .1))
 
-mark-unbroken : (e : Effect) → markOf e ≡ 10 → ⊥
+pub mark-unbroken : (e : Effect) → markOf e ≡ 10 → ⊥
 mark-unbroken Permit h = omega arith
 mark-unbroken Deny h = omega arith
 
-letter-unbroken : (l : Letter) → letterByte l ≡ 10 → ⊥
+pub letter-unbroken : (l : Letter) → letterByte l ≡ 10 → ⊥
 letter-unbroken Guarded h = omega arith
 letter-unbroken (Model A) h = omega arith
 letter-unbroken (Model B) h = omega arith

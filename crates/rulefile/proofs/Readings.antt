@@ -80,7 +80,7 @@ joined-one (i ∷ is) (j ∷ js) h k e =
     ap₂ _∷_ (ap₂ item (t .0) (t .1 .0)) (joined-one is js (h .1) (k .1) (t .1 .1))
 
 -- where there is a plain digit, it is some post
-plain-some : (is : List Item) → any plainDigit is ≡ true → (p : ℕ) × (any (λ i. not (i .barred) && isPost p (i .name)) is ≡ true)
+pub plain-some : (is : List Item) → any plainDigit is ≡ true → (p : ℕ) × (any (λ i. not (i .barred) && isPost p (i .name)) is ≡ true)
 plain-some [] h = absurd (both-ways false refl h)
 plain-some (i ∷ is) h =
     ⊎-elim

@@ -103,9 +103,9 @@ pub record SaidBefore (posts : ℕ) (file : List ℕ) (k : ℕ) (ts : List Rule)
   pub number-is : k ≡ before + 2
   pub says : Say (grammar letter conditions posts) (take before rest) ts
 
--- The first slots hold the rules, and the others what they held.
-abbrev pub filled : List Rule → List Rule → List Rule
-filled ts slots = ts ++ drop (length ts) slots
+-- The first places hold xs, and the others what they held.
+abbrev pub filled : {X : Type 0} → List X → List X → List X
+filled xs held = xs ++ drop (length xs) held
 
 -- What reading the file into the slots answers, and what it leaves in them. A list comes exactly where no place is at fault, which is where
 -- the file is by the grammar and its rules are no more than the slots.

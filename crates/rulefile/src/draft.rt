@@ -1,21 +1,12 @@
 // A rule while its line is read.
 ghost use mathlib.Core.Path.{_≡_};
-ghost use Prim.Native.Nat.{_<_};
-ghost use Rattle.ladders.specs.Sets.{holds};
 ghost use Rattle.rulefile.specs.Items.{Known};
 ghost use Rattle.rulefile.specs.Steps.{fresh, repeats, withItem, finished};
 use crate::grammar::Item;
 use crate::grammar::Name;
+use ladders::has;
 use rules::Effect;
 use rules::Rule;
-
-// Whether a set has a member.
-fn has(set: u16, member: u8) -> bool
-    requires { ⌜ member < 16 ⌝ }
-    ensures { λ r. ⌜ r ≡ holds set member ⌝ }
-{
-    (set >> member) & 1 == 1
-}
 
 // What the items so far give. The floor post is told from none, since `0` may be named.
 #[derive(Clone, Copy)]

@@ -1,0 +1,4 @@
+pub mod Written
+pub mod Writes
+pub mod Steps
+pub mod Refusals
