@@ -1,15 +1,16 @@
 // Whole inputs: how many rules and how many bytes are read.
 use crate::support::OLD;
+use crate::support::OLD_BYTE;
 use crate::support::OLD_RULE;
 use crate::support::Shape;
 use crate::support::answer;
 use crate::support::check_slots;
+use crate::support::check_text;
 use crate::support::shape;
 use ladders::House;
 use ladders::HouseLadder;
 use report::Refusal;
-use report::Summary;
-use report::check_input;
+use report::tidy;
 use rulefile::read;
 use rules::Rule;
 use std::alloc::AllocError;
@@ -21,24 +22,34 @@ const A: Shape = ('+', 1, 0, 0, 0);
 // How many rules a list may have.
 const SLOTS: usize = 4096;
 
-// What a whole input is answered: the letter, the conditions, the rules and the lines; or a number and the figures, with their count.
-type Told = Result<(char, u8, usize, usize), (u8, [usize; 2], usize)>;
+// What a whole input is answered: the text; or a number and the figures, with their count.
+type Told = Result<&'static [u8], (u8, [u128; 2], usize)>;
 
-fn told(checked: Result<Summary, Refusal>) -> Told {
-    match checked {
-        Ok(summary) => {
-            let list = summary.list;
-            Ok((
-                list.letter.symbol(),
-                list.conditions,
-                list.rules,
-                summary.lines,
-            ))
+// Tidies into the first bytes only, and not into more than there are.
+fn tidy_into(
+    input: &[u8],
+    slots: &mut [Rule],
+    room: usize,
+    text: &mut [u8],
+) -> Result<usize, Refusal> {
+    let lent = room.min(text.len());
+    tidy(input, slots, &mut text[0..lent])
+}
+
+// Tidies the input with room for so many bytes; the bytes after the text, and all of them after a refusal, stay.
+fn check_tidy(input: &[u8], slots: &mut [Rule], room: usize, due: Told) -> Result<(), Fail> {
+    let mut text = [OLD_BYTE; 64];
+    match (tidy_into(input, slots, room, &mut text), due) {
+        (Ok(count), Ok(bytes)) => {
+            check_eq(count, bytes.len())?;
+            check_text(&text, bytes)
         }
-        Err(refusal) => {
+        (Err(refusal), Err(told)) => {
             let (figures, count) = refusal.figures();
-            Err((refusal.number(), figures, count))
+            check_eq((refusal.number(), figures, count), told)?;
+            check_text(&text, &[])
         }
+        _ => Err(Fail::new("granted in place of refused, or refused in place of granted")),
     }
 }
 
@@ -79,15 +90,15 @@ fn most_rules(rt: LibcRuntime) -> Result<(), Fail> {
     }
     let mut slots = vec![in heap; OLD_RULE; SLOTS]?;
     let file = many_rules(heap, 4096)?;
-    check_eq(
-        told(check_input(&file, &mut slots)),
-        Ok(('G', 1, 4096, 4097)),
-    )?;
+    let mut text = vec![in heap; OLD_BYTE; 16388]?;
+    match tidy(&file, &mut slots, &mut text) {
+        Ok(count) => check_eq(count, 16388)?,
+        Err(_) => return Err(Fail::new("4,096 rules are refused")),
+    }
+    check(text.as_slice() == file.as_slice())?;
+    check_tidy(&file, &mut slots, 64, Err((8, [16388, 0], 1)))?;
     let file = many_rules(heap, 4097)?;
-    check_eq(
-        told(check_input(&file, &mut slots)),
-        Err((7, [4098, 16388], 2)),
-    )
+    check_tidy(&file, &mut slots, 64, Err((7, [4098, 16388], 2)))
 }
 
 // How an input begins, the byte that fills it, its length but for the last byte, and the last byte; then the answer, and the rules
@@ -95,23 +106,16 @@ fn most_rules(rt: LibcRuntime) -> Result<(), Fail> {
 type Case = (&'static [u8], u8, usize, u8, Told, &'static [Shape]);
 
 const LONG: [Case; 9] = [
-    (b"G 1\n+ a\n#", b'x', 32766, b'x', Ok(('G', 1, 1, 3)), &[A]),
-    (b"G 1\n+ a\n#", b'x', 32767, b'x', Ok(('G', 1, 1, 3)), &[A]),
+    (b"G 1\n+ a\n#", b'x', 32766, b'x', Ok(b"G 1\n+ a\n"), &[A]),
+    (b"G 1\n+ a\n#", b'x', 32767, b'x', Ok(b"G 1\n+ a\n"), &[A]),
     (b"G 1\n+ a\n#", b'x', 32768, b'x', Err((10, [0, 0], 0)), &[]),
-    (
-        b"G 1\n+ a\n",
-        b'\n',
-        32767,
-        b'\n',
-        Ok(('G', 1, 1, 32762)),
-        &[A],
-    ),
+    (b"G 1\n+ a\n", b'\n', 32767, b'\n', Ok(b"G 1\n+ a\n"), &[A]),
     (
         b"G 1\n+ a\n",
         b'\n',
         32767,
         b'+',
-        Ok(('G', 1, 2, 32762)),
+        Ok(b"G 1\n+ a\n+\n"),
         &[A, ('+', 0, 0, 0, 0)],
     ),
     (
@@ -144,38 +148,46 @@ fn longest_input(rt: LibcRuntime) -> Result<(), Fail> {
         }
         input.push(last)?;
         let mut slots = [OLD_RULE; 4];
-        check_eq(told(check_input(&input, &mut slots)), due)?;
+        check_tidy(&input, &mut slots, 64, due)?;
         check_slots(&slots, rules)?;
     }
     Ok(())
 }
 
-// An input, how many slots are lent, and the answer.
-const SHORT: [(&[u8], usize, Told); 15] = [
-    (b"", 4, Err((1, [1, 0], 2))),
-    (b"\n", 4, Err((1, [1, 0], 2))),
-    (b"G 1", 4, Ok(('G', 1, 0, 1))),
-    (b"G 1\n", 4, Ok(('G', 1, 0, 1))),
-    (b"G 1\n\n", 4, Ok(('G', 1, 0, 2))),
-    (b"G 1\n\n+ a", 4, Ok(('G', 1, 1, 3))),
-    (b"D 9\n- 7 i\n#\n", 4, Ok(('D', 9, 1, 3))),
-    (b"G 1\n\n", 0, Ok(('G', 1, 0, 2))),
-    (b"G 1\n#\nx", 4, Err((2, [3, 6], 2))),
-    (b"G 1\n+ ", 4, Err((3, [2, 6], 2))),
-    (b"G 1\n+ 7 b", 4, Err((4, [2, 8], 2))),
-    (b"G 1\n+ 3 !3", 4, Err((5, [2, 9], 2))),
-    (b"A 1\n+ !7", 4, Err((6, [2, 6], 2))),
-    (b"G 1\n+", 0, Err((7, [2, 4], 2))),
-    (b"G 1\n+ a\n+ a\n+ x", 2, Err((7, [4, 12], 2))),
+// An input, how many slots and how many bytes are lent, and the answer.
+const SHORT: [(&[u8], usize, usize, Told); 19] = [
+    (b"", 4, 64, Err((1, [1, 0], 2))),
+    (b"\n", 4, 64, Err((1, [1, 0], 2))),
+    (b"G 1", 4, 64, Ok(b"G 1\n")),
+    (b"G 1\n", 4, 64, Ok(b"G 1\n")),
+    (b"G 1\n\n", 0, 64, Ok(b"G 1\n")),
+    (b"G 1\n\n+ a", 4, 64, Ok(b"G 1\n+ a\n")),
+    (b"D 9\n- 7 i\n#\n", 4, 64, Ok(b"D 9\n- 7 i\n")),
+    (b"C 2\n- b 0 a\n+ 0", 4, 64, Ok(b"C 2\n- a b\n+\n")),
+    (
+        b"G 3\n+ !c b !a !6 3 !5",
+        4,
+        64,
+        Ok(b"G 3\n+ 3 !5 !6 !a b !c\n"),
+    ),
+    (b"G 1\n# x\n+ 0 !a", 4, 9, Ok(b"G 1\n+ !a\n")),
+    (b"G 1\n# x\n+ 0 !a", 4, 8, Err((8, [9, 0], 1))),
+    (b"G 1", 4, 3, Err((8, [4, 0], 1))),
+    (b"G 1\n#\nx", 4, 64, Err((2, [3, 6], 2))),
+    (b"G 1\n+ ", 4, 64, Err((3, [2, 6], 2))),
+    (b"G 1\n+ 7 b", 4, 0, Err((4, [2, 8], 2))),
+    (b"G 1\n+ 3 !3", 4, 64, Err((5, [2, 9], 2))),
+    (b"A 1\n+ !7", 4, 64, Err((6, [2, 6], 2))),
+    (b"G 1\n+", 0, 64, Err((7, [2, 4], 2))),
+    (b"G 1\n+ a\n+ a\n+ x", 2, 64, Err((7, [4, 12], 2))),
 ];
 
 #[test]
 fn short_inputs() -> Result<(), Fail> {
-    for (input, room, due) in SHORT {
-        check(room <= 4)?;
-        let mut slots = [OLD_RULE; 4];
-        let found = check_input(input, &mut slots[0..room]);
-        check_eq(told(found), due).note(format_args!("input {input:?}"))?;
+    for (input, slots, room, due) in SHORT {
+        check(slots <= 4)?;
+        let mut held = [OLD_RULE; 4];
+        check_tidy(input, &mut held[0..slots], room, due).note(format_args!("input {input:?}"))?;
     }
     Ok(())
 }

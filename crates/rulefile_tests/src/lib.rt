@@ -1,4 +1,4 @@
-// Tests of the reader of rule files, and of what a whole input is answered. The crate has nothing else.
+// Tests of reading and writing rule files, and of what a whole input is answered. The crate has nothing else.
 #[cfg(test)]
 mod cuts;
 #[cfg(test)]
@@ -15,3 +15,5 @@ mod random;
 mod slots;
 #[cfg(test)]
 mod support;
+#[cfg(test)]
+mod written;

@@ -42,6 +42,20 @@ pub(crate) fn shape(rule: Rule) -> Shape {
     )
 }
 
+pub(crate) fn rule(shape: Shape) -> Rule {
+    let effect = match shape.0 {
+        '+' => Effect::Permit,
+        _ => Effect::Deny,
+    };
+    Rule {
+        effect,
+        needed: shape.1,
+        barred: shape.2,
+        floor: shape.3,
+        barred_posts: shape.4,
+    }
+}
+
 pub(crate) fn answer(read: Result<Listing, FileFault>) -> Answer {
     match read {
         Ok(list) => Ok((list.letter.symbol(), list.conditions, list.rules)),
@@ -73,6 +87,19 @@ pub(crate) fn check_slots(slots: &[Rule], rules: &[Shape]) -> Result<(), Fail> {
     for (i, slot) in slots.iter().enumerate() {
         let due = rules.get(i).copied().unwrap_or(OLD);
         check_eq(shape(*slot), due).note(format_args!("slot {i}"))?;
+    }
+    Ok(())
+}
+
+// What each byte of a text holds before a writing. No text has it.
+pub const OLD_BYTE: u8 = b'?';
+
+// The bytes stand at the front of the text, and the other bytes hold what they held.
+pub(crate) fn check_text(text: &[u8], bytes: &[u8]) -> Result<(), Fail> {
+    check(bytes.len() <= text.len())?;
+    for (i, byte) in text.iter().enumerate() {
+        let due = bytes.get(i).copied().unwrap_or(OLD_BYTE);
+        check_eq(*byte, due).note(format_args!("byte {i}"))?;
     }
     Ok(())
 }

@@ -31,7 +31,7 @@ module _ (ts : List Rule) (i : ℕ) (d : Rule) (h : i < length ts) where
 pub lined-within : (ts : List Rule) (i : ℕ) → length (lined (map lineOf (take i ts))) ≤ length (lined (map lineOf ts))
 lined-within ts i =
     let whole : lined (map lineOf ts) ≡ lined (map lineOf (take i ts)) ++ lined (map lineOf (drop i ts)) =
-        ap (λ us. lined (map lineOf us)) (sym (take-append-drop i ts)) ∙ ap lined (map-append lineOf (take i ts) (drop i ts)) ∙ lined-append (map lineOf (take i ts)) (map lineOf (drop i ts)) in
+    ap (λ us. lined (map lineOf us)) (sym (take-append-drop i ts)) ∙ ap lined (map-append lineOf (take i ts) (drop i ts)) ∙ lined-append (map lineOf (take i ts)) (map lineOf (drop i ts)) in
     let l = ap length whole ∙ length-append (lined (map lineOf (take i ts))) (lined (map lineOf (drop i ts))) in omega arith
 
 pub lined-all : (ts : List Rule) (i : ℕ) → length ts ≤ i → lined (map lineOf (take i ts)) ≡ lined (map lineOf ts)

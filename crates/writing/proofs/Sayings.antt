@@ -122,7 +122,7 @@ module _ (g : Grammar) (t : Rule) (some : 1 ≤ g .posts) (is : List Item) (f : 
             λ c h. ⊎-elim (λ (e : holds (t .barred) c ≡ true). absurd (named-once g (Condition c) [] is f (sym (m .needed c) ∙ h) (sym (m .barred c) ∙ e))) (λ (e : holds (t .barred) c ≡ false). e) (cases-bool (holds (t .barred) c));
         free =
             λ h.
-                ⊎-elim (λ (e : holds (t .«barred_posts») (t .floor) ≡ true). absurd (named-once g (Post (t .floor)) [] is f (floor-named (λ z. omega arith)) (sym (m .posts (t .floor)) ∙ e))) (λ (e : holds (t .«barred_posts») (t .floor) ≡ false). e) (cases-bool (holds (t .«barred_posts») (t .floor)));
+            ⊎-elim (λ (e : holds (t .«barred_posts») (t .floor) ≡ true). absurd (named-once g (Post (t .floor)) [] is f (floor-named (λ z. omega arith)) (sym (m .posts (t .floor)) ∙ e))) (λ (e : holds (t .«barred_posts») (t .floor) ≡ false). e) (cases-bool (holds (t .«barred_posts») (t .floor)));
         mark = mark;
       }
 
@@ -201,8 +201,8 @@ module _ (g : Grammar) (t : Rule) where
         apart = λ c e. none-and (t .needed) (t .barred) c (eqb-true (bitAnd (t .needed) (t .barred)) 0 apart) e;
         free =
             λ above.
-                ⊎-elim (λ (e : eqb (t .floor) 0 ≡ true). let z = eqb-true (t .floor) 0 e in absurd (omega arith)) (λ e. not-true (holds (t .«barred_posts») (t .floor)) e)
-                (or-cases (eqb (t .floor) 0) (not (holds (t .«barred_posts») (t .floor))) free);
+            ⊎-elim (λ (e : eqb (t .floor) 0 ≡ true). let z = eqb-true (t .floor) 0 e in absurd (omega arith)) (λ e. not-true (holds (t .«barred_posts») (t .floor)) e)
+            (or-cases (eqb (t .floor) 0) (not (holds (t .«barred_posts») (t .floor))) free);
         mark = a .mark;
       }
 

@@ -15,7 +15,7 @@ use Rattle.rulefile.specs.declared.grammar.Grammar.{Grammar}
 use Rattle.rulefile.specs.declared.grammar.Listing.{Listing}
 use Rattle.rulefile.specs.declared.faults.FileFault.{FileFault}
 use Rattle.rulefile.specs.Items.{spelled, markOf, Spells}
-use Rattle.rulefile.specs.Files.{headLine, grammar, Say, nothing, a-rule, ByGrammar, filled, Answers}
+use Rattle.rulefile.specs.Files.{headLine, grammar, Say, nothing, silence, a-rule, ByGrammar, filled, Answers}
 use Rattle.rulefile.proofs.FileLaw.{items-unbroken, mark-unbroken, letter-unbroken, one-reading}
 use Rattle.rulefile.proofs.LineLaw.{follow-known}
 use Rattle.writing.specs.Written.{lineOf, lined, written}
@@ -54,10 +54,20 @@ module _ (posts : ℕ) (letter : Letter) (n : ℕ) (ts : List Rule) (some : 1 �
       let one = one-reading posts (written letter n ts) (l .letter) letter (l .conditions) n us ts b by-grammar in
       let same : Listing → Listing → Type 0 = λ a b. a ≡ b in
       let told : same l (record { letter = letter; conditions = n; rules = length ts }) =
-          ap₂ (λ a b. let x : Listing = record { letter = a; conditions = b; rules = l .rules } in x) (one .0) (one .1 .0)
-          ∙ ap (λ c. let x : Listing = record { letter = letter; conditions = n; rules = c } in x) (count ∙ ap length (one .1 .1)) in
+      ap₂ (λ a b. let x : Listing = record { letter = a; conditions = b; rules = l .rules } in x) (one .0) (one .1 .0)
+      ∙ ap (λ c. let x : Listing = record { letter = letter; conditions = n; rules = c } in x) (count ∙ ap length (one .1 .1)) in
       (ap Ok told, left ∙ ap (λ xs. filled xs slots) (one .1 .1))
   back-again slots slots′ (Err f) few (_, (unread, _)) = absurd (unread letter n ts by-grammar few)
 
   pub read-back : ReadBack posts (written letter n ts) letter n ts
   read-back = record { list = by-grammar; once = one-reading posts (written letter n ts); read = back-again }
+
+-- Each rule that lines say is given by some line.
+said-sayable : {g : Grammar} {ls : List Span} {ts : List Rule} → Say g ls ts → All (Sayable g) ts
+said-sayable nothing = tt
+said-sayable (silence h s) = said-sayable s
+said-sayable (a-rule {l} h s) = ((l .bytes, h), said-sayable s)
+
+-- A list that is read is lawful.
+pub read-lawful : {posts : ℕ} {file : List ℕ} {letter : Letter} {n : ℕ} {ts : List Rule} → ByGrammar posts file letter n ts → LawfulList posts letter n ts
+read-lawful b = (b .head .0, said-sayable (b .says))

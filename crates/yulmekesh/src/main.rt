@@ -1,11 +1,11 @@
-// Reads a rule file from standard input, and prints what it holds or why it is refused.
+// Reads a rule file from standard input, and prints it as lists are written, or why it is refused.
 use report::Refusal;
-use report::Summary;
-use report::check_input;
+use report::tidy;
 use rules::Effect;
 use rules::Rule;
 use std::error::AnyError;
 use std::io::Read;
+use std::io::Write;
 
 // One byte more than an input may have, so that a longer one is seen to be.
 const MOST: u64 = 32769;
@@ -13,18 +13,8 @@ const MOST: u64 = 32769;
 // How many rules a list may have.
 const SLOTS: usize = 4096;
 
-// The line that tells what was read.
-fn print_summary(rt: &impl Print, summary: Summary) -> std::io::Result<()> {
-    let list = summary.list;
-    let letter = list.letter.symbol();
-    let conditions = list.conditions;
-    let rules = list.rules;
-    let lines = summary.lines;
-    println!(
-        rt,
-        "list {letter}, {conditions} conditions, {rules} rules, {lines} lines"
-    )
-}
+// How many bytes a text may have.
+const ROOM: usize = 65536;
 
 // The line that tells why the input is refused: the number and its figures.
 fn print_refusal(rt: &impl Print, refusal: Refusal) -> std::io::Result<()> {
@@ -49,8 +39,9 @@ fn run(rt: &LibcRuntime) -> Result<(), AnyError> {
         barred_posts: 0,
     };
     let mut slots = vec![in heap; empty; SLOTS]?;
-    match check_input(&input, &mut slots) {
-        Ok(summary) => print_summary(rt, summary)?,
+    let mut text = vec![in heap; 0u8; ROOM]?;
+    match tidy(&input, &mut slots, &mut text) {
+        Ok(count) => rt.stdout().write_all(&text[0..count])?,
         Err(refusal) => print_refusal(rt, refusal)?,
     }
     Ok(())

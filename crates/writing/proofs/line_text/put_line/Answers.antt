@@ -37,9 +37,9 @@ loop-place-again c =
       | in-Some w ↦
           let e = text-some f k (w .in-Some .item) (w .in-Some .ensures tt) in (
             put-more (c .put-next .last .text) (c .put-next .result) xs fits (spelled (w .in-Some .item)) (c .loop-place .inv .0) (c .loop-place .inv .1) (w .text-is ∙ w .put-item-next .ensures .text)
-            ∙ ap (over (c .put-next .last .text) (c .put-next .result)) (sym e),
+                ∙ ap (over (c .put-next .last .text) (c .put-next .result)) (sym e),
             next-more (c .put-next .last .text) (c .put-next .result) xs fits (spelled (w .in-Some .item)) (c .loop-place .inv .1) (w .next-is ∙ w .put-item-next .ensures .next)
-            ∙ ap (λ ys. c .put-next .result + length ys) (sym e),
+                ∙ ap (λ ys. c .put-next .result + length ys) (sym e),
           )
       | in-rest w ↦
           let e = text-none f k (w .in-rest .ensures tt) in (

@@ -25,7 +25,7 @@ pub returns : need.returns
 returns g c =
     let laws = g .L·Ladder·met .lawful (c .args .ladder .now) in
     let lawful : LawfulList (g .L·Ladder .posts (c .args .ladder .now)) (c .args .letter) (c .args .conditions) (c .args .rules .now) =
-        (omega arith, subst (λ k. All (Sayable (grammar (c .args .letter) (c .args .conditions) k)) (c .args .rules .now)) (c .count .ensures) (c .in-rest .ensures tt)) in
+    (omega arith, subst (λ k. All (Sayable (grammar (c .args .letter) (c .args .conditions) k)) (c .args .rules .now)) (c .count .ensures) (c .in-rest .ensures tt)) in
     let e = c .text-len-needed .ensures in
     let n = c .put-list .ensures .count in (
       lawful,
