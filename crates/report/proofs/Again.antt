@@ -17,6 +17,7 @@ use Rattle.rulefile.specs.Files.{grammar, Answers}
 use Rattle.writing.specs.declared.refusal.Unwritten.{Unwritten}
 use Rattle.writing.specs.declared.refusal.Unwritten.the-variants.{NoLine, NoRoom}
 use Rattle.writing.specs.Writes.{Sayable, LawfulList, Writes}
+use Rattle.writing.proofs.Shorter.{text-shortest}
 use Rattle.writing.proofs.Texts.{read-lawful, read-back}
 use Rattle.report.specs.declared.refusal.Refusal.{Refusal}
 use Rattle.report.specs.declared.refusal.Refusal.the-variants.{Text}
@@ -56,6 +57,7 @@ module _ (input : List ℕ) (slots slots′ : List Rule) (text text′ : List �
         few = read .1 .1 .1 .1 .0;
         slots-are = read .1 .1 .1 .1 .1;
         back = read-back 8 (l .letter) (l .conditions) ts (omega arith) (omega arith) lawful;
+        no-longer = text-shortest (read .1 .1 .0);
       }
 
   answered : (r : Result ℕ Unwritten) → Writes 8 (l .letter) (l .conditions) ts text r text′ → Tidied input slots text (inTidy r) slots′ text′

@@ -3,18 +3,15 @@ use mathlib.Core.Path.{_≡_, refl, sym, ap, ap₂, _∙_}
 use mathlib.Core.List.{List, [], _∷_, _++_, append-nil, append-assoc}
 use mathlib.Core.Bool.{Bool, true, false, not, _&&_, _||_}
 use mathlib.Core.Logic.{⊎-elim}
-use Prim.Native.Nat.{ℕ, _/_, _%_, _^_, _<_}
-use native.Mathlib.Omega.{arith}
-use native.Mathlib.Nat.{div-eq-of-lt}
+use Prim.Native.Nat.{ℕ, _^_}
 use lib.Bits.{bitOr}
 use lib.Dec.{eqb}
-use lib.Pow.{pow-pos}
 use Rattle.std.specs.Options.{isSome, valueOr}
 use Rattle.std.specs.declared.option.Option.{Option}
 use Rattle.std.specs.declared.option.Option.the-variants.{Some, None}
 use Rattle.std.proofs.shelf.Tests.{eqb-true, or-parts, and-cases, both-ways, cases-bool}
 use Rattle.ladders.specs.Sets.{holds}
-use Rattle.ladders.proofs.Sets.{or-holds, power-holds}
+use Rattle.ladders.proofs.Sets.{or-holds, power-holds, zero-holds}
 use Rattle.rules.specs.declared.rule.Effect.{Effect}
 use Rattle.rulefile.specs.declared.grammar.Grammar.{Grammar}
 use Rattle.rulefile.specs.declared.grammar.Name.{Name}
@@ -131,9 +128,6 @@ plain-or-barred y (i ∷ is) =
     split (i .barred) (sameName (i .name) y) (any (λ i. not (i .barred) && sameName (i .name) y) is) (any (λ i. i .barred && sameName (i .name) y) is)
     ∙ ap (λ b. sameName (i .name) y || b) (plain-or-barred y is)
 
-pub none-hold : (c : ℕ) → holds 0 c ≡ false
-none-hold c = ap (λ x. eqb (x % 2) 1) (div-eq-of-lt (pow-pos c))
-
 floor-repeats : (o : Option ℕ) (p : Bool) (k : ℕ) → repeatsFloor o p k ≡ ((not p && isSome o) || floorIs o k)
 floor-repeats None true k = refl
 floor-repeats None false k = refl
@@ -152,13 +146,13 @@ turned false false false = refl
 
 module _ (g : Grammar) (e : Effect) (is : List Item) (f : Follow g [] is) where
   needed-here : (c : ℕ) → holds (drafted (fresh e) is .needed) c ≡ any (λ i. not (i .barred) && isCondition c (i .name)) is
-  needed-here c = needed-items c (fresh e) is ∙ ap (λ b. b || any (λ i. not (i .barred) && isCondition c (i .name)) is) (none-hold c)
+  needed-here c = needed-items c (fresh e) is ∙ ap (λ b. b || any (λ i. not (i .barred) && isCondition c (i .name)) is) (zero-holds c)
 
   barred-here : (c : ℕ) → holds (drafted (fresh e) is .barred) c ≡ any (λ i. i .barred && isCondition c (i .name)) is
-  barred-here c = barred-items c (fresh e) is ∙ ap (λ b. b || any (λ i. i .barred && isCondition c (i .name)) is) (none-hold c)
+  barred-here c = barred-items c (fresh e) is ∙ ap (λ b. b || any (λ i. i .barred && isCondition c (i .name)) is) (zero-holds c)
 
   posts-here : (c : ℕ) → holds (drafted (fresh e) is .«barred_posts») c ≡ any (λ i. i .barred && isPost c (i .name)) is
-  posts-here c = posts-items c (fresh e) is ∙ ap (λ b. b || any (λ i. i .barred && isPost c (i .name)) is) (none-hold c)
+  posts-here c = posts-items c (fresh e) is ∙ ap (λ b. b || any (λ i. i .barred && isPost c (i .name)) is) (zero-holds c)
 
   floor-here : (k : ℕ) → floorIs (drafted (fresh e) is .floor) k ≡ any (λ i. not (i .barred) && isPost k (i .name)) is
   floor-here k = floor-items g [] (fresh e) is k refl f

@@ -4,3 +4,4 @@ pub mod Texts
 pub mod Places
 pub mod Overs
 pub mod Lined
+pub mod Shorter

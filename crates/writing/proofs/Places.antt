@@ -1,5 +1,5 @@
 -- The items by their places, and what each adds to the text.
-use mathlib.Core.Path.{_≡_, refl, sym, ap, ap₂, _∙_}
+use mathlib.Core.Path.{_≡_, refl, sym, ap, ap₂, subst, _∙_}
 use mathlib.Core.List.{List, [], _∷_, _++_, append-assoc, append-nil}
 use mathlib.Core.Bool.{Bool, true, false, cond}
 use mathlib.Core.Logic.{⊎-elim}
@@ -65,7 +65,7 @@ joined-append (x ∷ xs) ys = ap (λ zs. spelled x ++ zs) (joined-append xs ys) 
 
 -- one place more, with an item or without
 module _ (f : ℕ → Option Item) (k : ℕ) where
-  text-more : (o : Option Item) → o ≡ f k → joined spelled (rising f (k + 1)) ≡ joined spelled (rising f k) ++ joined spelled (listOf o)
+  pub text-more : (o : Option Item) → o ≡ f k → joined spelled (rising f (k + 1)) ≡ joined spelled (rising f k) ++ joined spelled (listOf o)
   unfolding rising
   text-more o e = ap (λ n. joined spelled (rising f n)) (add-one k) ∙ joined-append (rising f k) (listOf (f k)) ∙ ap (λ p. joined spelled (rising f k) ++ joined spelled (listOf p)) (sym e)
 
@@ -98,35 +98,36 @@ pub line-placed : (t : Rule) → lineOf t ≡ markOf (t .effect) ∷ joined spel
 unfolding lineOf
 line-placed t = ap (λ is. markOf (t .effect) ∷ joined spelled is) (sym (placed-written t))
 
+-- The item at a place is the floor post's, a post's or a condition's.
+pub placed-cases : (t : Rule) (k : ℕ) (P : Option Item → Type 0) → (k ≡ 0 → P (floorItem t)) → ((p : ℕ) → p < 8 → k ≡ 1 + p → P (postItem t p)) → ((c : ℕ) → k ≡ 9 + c → P (conditionItem t c)) → P (placedItem t k)
+placed-cases t k P floor post condition =
+    ⊎-elim (λ (z : k ≡ 0). subst P (sym (cond-true (eqb k 0) _ _ (eq-eqb k 0 z))) (floor z))
+    (λ nz.
+    ⊎-elim
+    (λ (lt : k < 9).
+    subst P (sym (cond-false (eqb k 0) _ _ (ne-eqb k 0 nz) ∙ cond-true (leb k 8) _ _ (le-leb k 8 (omega arith)))) (post (k - 1) (omega arith) (omega arith)))
+    (λ (le : 9 ≤ k). subst P (sym (cond-false (eqb k 0) _ _ (ne-eqb k 0 nz) ∙ cond-false (leb k 8) _ _ (lt-leb k 8 (omega arith)))) (condition (k - 9) (omega arith)))
+    (cases-lt k 9))
+    (cases-eq k 0)
+
 -- Each item at a place has a letter or digit.
 pub placed-known : (t : Rule) (k : ℕ) (i : Item) → t .floor < 8 → k < 18 → Some i ≡ placedItem t k → Known (i .name)
-placed-known t k i low h e =
-    named (placedItem t k) e
-    (λ z. cond-true (eqb k 0) _ _ (eq-eqb k 0 z))
-    (λ nz p. cond-false (eqb k 0) _ _ (ne-eqb k 0 nz) ∙ cond-true (leb k 8) _ _ (le-leb k 8 p))
-    (λ nz p. cond-false (eqb k 0) _ _ (ne-eqb k 0 nz) ∙ cond-false (leb k 8) _ _ (lt-leb k 8 p))
+placed-known t k i low h =
+    placed-cases t k (λ o. Some i ≡ o → Known (i .name)) (λ _. by-floor (eqb (t .floor) 0)) (λ p lt _. by-post p lt (holds (t .«barred_posts») p))
+    (λ c e. by-condition c (omega arith) (holds (t .needed) c) (holds (t .barred) c))
   where
     by-floor : (b : Bool) → Some i ≡ cond b None (Some (item false (Post (t .floor)))) → Known (i .name)
     by-floor true e = let z : _≡_ {A = ℕ} 0 1 = cc in absurd (omega arith)
     by-floor false e = let s : i ≡ item false (Post (t .floor)) = cc in rw s low
 
-    by-post : (b : Bool) → Some i ≡ cond b (Some (item true (Post (k - 1)))) None → k ≤ 8 → Known (i .name)
-    by-post true e p = let s : i ≡ item true (Post (k - 1)) = cc in rw s (omega arith)
-    by-post false e p = let z : _≡_ {A = ℕ} 0 1 = cc in absurd (omega arith)
+    by-post : (p : ℕ) → p < 8 → (b : Bool) → Some i ≡ cond b (Some (item true (Post p))) None → Known (i .name)
+    by-post p lt true e = let s : i ≡ item true (Post p) = cc in rw s lt
+    by-post p lt false e = let z : _≡_ {A = ℕ} 0 1 = cc in absurd (omega arith)
 
-    by-condition : (a b : Bool) → Some i ≡ cond a (Some (item false (Condition (k - 9)))) (cond b (Some (item true (Condition (k - 9)))) None) → Known (i .name)
-    by-condition true b e = let s : i ≡ item false (Condition (k - 9)) = cc in rw s (omega arith)
-    by-condition false true e = let s : i ≡ item true (Condition (k - 9)) = cc in rw s (omega arith)
-    by-condition false false e = let z : _≡_ {A = ℕ} 0 1 = cc in absurd (omega arith)
-
-    named : (o : Option Item) → Some i ≡ o → (k ≡ 0 → o ≡ floorItem t) → ((k ≡ 0 → ⊥) → k ≤ 8 → o ≡ postItem t (k - 1)) → ((k ≡ 0 → ⊥) → 8 < k → o ≡ conditionItem t (k - 9)) → Known (i .name)
-    named o e a b c =
-        ⊎-elim (λ (z : k ≡ 0). by-floor (eqb (t .floor) 0) (e ∙ a z))
-        (λ nz.
-        ⊎-elim (λ (p : k < 9). by-post (holds (t .«barred_posts») (k - 1)) (e ∙ b nz (omega arith)) (omega arith))
-        (λ (p : 9 ≤ k). by-condition (holds (t .needed) (k - 9)) (holds (t .barred) (k - 9)) (e ∙ c nz (omega arith)))
-        (cases-lt k 9))
-        (cases-eq k 0)
+    by-condition : (c : ℕ) → c < 9 → (a b : Bool) → Some i ≡ cond a (Some (item false (Condition c))) (cond b (Some (item true (Condition c))) None) → Known (i .name)
+    by-condition c lt true b e = let s : i ≡ item false (Condition c) = cc in rw s lt
+    by-condition c lt false true e = let s : i ≡ item true (Condition c) = cc in rw s lt
+    by-condition c lt false false e = let z : _≡_ {A = ℕ} 0 1 = cc in absurd (omega arith)
 
 -- Where there is room for the line and its byte 10, there is room for the items up to a place, and one byte more.
 pub room-left : (t : Rule) (at k m : ℕ) → k ≤ 18 → at + (length (lineOf t) + 1) ≤ m → (at + 1) + length (joined spelled (rising (placedItem t) k)) + 1 ≤ m

@@ -31,7 +31,7 @@ use Rattle.writing.specs.Writes.{Sayable}
 use Rattle.writing.specs.Steps.{inRange, namesOnce, permits, allowed, canSay}
 use Rattle.writing.proofs.Orderly.{CanSay, any-append, written-follows, written-means}
 
-same-name : (x y : Name) → sameName x y ≡ true → x ≡ y
+pub same-name : (x y : Name) → sameName x y ≡ true → x ≡ y
 same-name (Condition c) (Condition d) h = ap Condition (eqb-true c d h)
 same-name (Condition c) (Post p) h = absurd (both-ways false refl h)
 same-name (Post p) (Condition c) h = absurd (both-ways false refl h)
@@ -92,6 +92,14 @@ named-once g y before (i ∷ is) h p q =
         named-before g y (before ++ (i ∷ [])) is (h .1)
         (any-append (λ j. sameName (j .name) y) before (i ∷ []) ∙ or-right (any (λ j. sameName (j .name) y) before) (any (λ j. sameName (j .name) y) (i ∷ [])) (or-left (sameName (i .name) y) false e)) k
 
+-- A floor post other than 0 is named plain.
+pub floor-named : (is : List Item) (t : Rule) → Means is t → (t .floor ≡ 0 → ⊥) → any (λ i. not (i .barred) && isPost (t .floor) (i .name)) is ≡ true
+floor-named is t m ne =
+    ⊎-elim
+    (λ (e : any plainDigit is ≡ true). let (p, q) = plain-some is e in subst (λ k. any (λ i. not (i .barred) && isPost k (i .name)) is ≡ true) (sym (m .floor p q)) q)
+    (λ (e : any plainDigit is ≡ false). absurd (ne (m .ground e)))
+    (cases-bool (any plainDigit is))
+
 module _ (g : Grammar) (t : Rule) (some : 1 ≤ g .posts) (is : List Item) (f : Follow g [] is) (m : Means is t) where
   -- an item that passes a test on bar and name
   found : (b : Item → Bool) (y : Name) → any (λ i. b i && sameName (i .name) y) is ≡ true → (i : Item) × ((b i ≡ true) × (Within g y × (i .barred ≡ true → g .letter ≡ Guarded)))
@@ -100,13 +108,6 @@ module _ (g : Grammar) (t : Rule) (some : 1 ≤ g .posts) (is : List Item) (f : 
       let both = and-parts (b i) (sameName (i .name) y) p in
       (i, (both .0, (subst (Within g) (same-name (i .name) y (both .1)) w, k)))
 
-  floor-named : (t .floor ≡ 0 → ⊥) → any (λ i. not (i .barred) && isPost (t .floor) (i .name)) is ≡ true
-  floor-named ne =
-      ⊎-elim
-      (λ (e : any plainDigit is ≡ true). let (p, q) = plain-some is e in subst (λ k. any (λ i. not (i .barred) && isPost k (i .name)) is ≡ true) (sym (m .floor p q)) q)
-      (λ (e : any plainDigit is ≡ false). absurd (ne (m .ground e)))
-      (cases-bool (any plainDigit is))
-
   barred-found : (y : Name) → any (λ i. i .barred && sameName (i .name) y) is ≡ true → Within g y × (g .letter ≡ Guarded)
   barred-found y e = let (i, (b, (w, k))) = found (λ i. i .barred) y e in (w, k b)
 
@@ -114,7 +115,7 @@ module _ (g : Grammar) (t : Rule) (some : 1 ≤ g .posts) (is : List Item) (f : 
   can-say mark =
       record {
         floor =
-            ⊎-elim (λ (e : t .floor ≡ 0). omega arith) (λ ne. found (λ i. not (i .barred)) (Post (t .floor)) (floor-named ne) .1 .1 .0) (cases-eq (t .floor) 0);
+            ⊎-elim (λ (e : t .floor ≡ 0). omega arith) (λ ne. found (λ i. not (i .barred)) (Post (t .floor)) (floor-named is t m ne) .1 .1 .0) (cases-eq (t .floor) 0);
         needed = λ c h. found (λ i. not (i .barred)) (Condition c) (sym (m .needed c) ∙ h) .1 .1 .0;
         barred = λ c h. barred-found (Condition c) (sym (m .barred c) ∙ h);
         posts = λ p h. barred-found (Post p) (sym (m .posts p) ∙ h);
@@ -122,7 +123,7 @@ module _ (g : Grammar) (t : Rule) (some : 1 ≤ g .posts) (is : List Item) (f : 
             λ c h. ⊎-elim (λ (e : holds (t .barred) c ≡ true). absurd (named-once g (Condition c) [] is f (sym (m .needed c) ∙ h) (sym (m .barred c) ∙ e))) (λ (e : holds (t .barred) c ≡ false). e) (cases-bool (holds (t .barred) c));
         free =
             λ h.
-            ⊎-elim (λ (e : holds (t .«barred_posts») (t .floor) ≡ true). absurd (named-once g (Post (t .floor)) [] is f (floor-named (λ z. omega arith)) (sym (m .posts (t .floor)) ∙ e))) (λ (e : holds (t .«barred_posts») (t .floor) ≡ false). e) (cases-bool (holds (t .«barred_posts») (t .floor)));
+            ⊎-elim (λ (e : holds (t .«barred_posts») (t .floor) ≡ true). absurd (named-once g (Post (t .floor)) [] is f (floor-named is t m (λ z. omega arith)) (sym (m .posts (t .floor)) ∙ e))) (λ (e : holds (t .«barred_posts») (t .floor) ≡ false). e) (cases-bool (holds (t .«barred_posts») (t .floor)));
         mark = mark;
       }
 
