@@ -1,6 +1,8 @@
 use crate::house::House;
 use crate::house::HouseLadder;
 use crate::ladder::Ladder;
+use crate::ladder_rows::LadderRows;
+use crate::ladder_rows::RowsLadder;
 use crate::rank::Rank;
 use crate::rank::RankLadder;
 use crate::table::rows;
@@ -47,4 +49,22 @@ fn rows_of_both() -> Result<(), Fail> {
     check_eq(rows(&Rank::new(0)), [1, 0, 0, 0, 0, 0, 0, 0])?;
     check_eq(rows(&Rank::new(3)), [1, 3, 7, 0, 0, 0, 0, 0])?;
     check_eq(rows(&Rank::new(9)), [1, 3, 7, 15, 31, 63, 127, 255])
+}
+
+fn same_answers<L: Ladder>(ladder: &L) -> Result<(), Fail> {
+    let copy = LadderRows::of(ladder);
+    check_eq(copy.count(), ladder.count())?;
+    for p in 0..10 {
+        for q in 0..10 {
+            check_eq(copy.at_least(p, q), ladder.at_least(p, q))?;
+        }
+    }
+    Ok(())
+}
+
+#[test]
+fn rows_answer_as_the_ladder() -> Result<(), Fail> {
+    same_answers(&House)?;
+    same_answers(&Rank::new(1))?;
+    same_answers(&Rank::new(5))
 }

@@ -1,3 +1,4 @@
 pub mod Letters
+pub mod Models
 pub mod Requests
 pub mod Rules

@@ -1,7 +1,10 @@
+use crate::letter::Model;
 use crate::request::Request;
 use crate::request::RequestDebug;
 use crate::request::RequestPartialEq;
 use crate::rule::Effect;
+use crate::rule::EffectDebug;
+use crate::rule::EffectPartialEq;
 use crate::rule::Rule;
 use ladders::House;
 use ladders::HouseLadder;
@@ -138,4 +141,19 @@ fn floors() -> Result<(), Fail> {
         }.floor_of(&House, 3),
         None,
     )
+}
+
+#[test]
+fn models() -> Result<(), Fail> {
+    let table = [
+        (Model::A, Effect::Deny, Effect::Deny),
+        (Model::B, Effect::Permit, Effect::Permit),
+        (Model::C, Effect::Deny, Effect::Permit),
+        (Model::D, Effect::Permit, Effect::Deny),
+    ];
+    for (model, default, overriding) in table {
+        check_eq(model.default_effect(), default)?;
+        check_eq(model.overriding(), overriding)?;
+    }
+    Ok(())
 }

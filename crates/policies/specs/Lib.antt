@@ -1,0 +1,3 @@
+pub mod Policies
+pub mod Lists
+pub mod ListMeaning
