@@ -1,7 +1,7 @@
 -- The lines of a file. A line ends at byte 10; the last one counts with or without it, and an ending byte 10 starts no further line.
 use mathlib.Core.Path.{_≡_}
 use mathlib.Core.List.{List, [], _∷_, _++_}
-use Prim.Native.Nat.{ℕ, zero, suc, _+_, _-_, _<_, _≤_}
+use Prim.Native.Nat.{ℕ, suc, _+_, _-_, _<_}
 use lib.ListN.{length}
 use Rattle.std.specs.shelf.Lists.{All}
 

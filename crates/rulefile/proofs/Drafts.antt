@@ -9,7 +9,7 @@ use lib.Dec.{eqb}
 use Rattle.std.specs.Options.{isSome, valueOr}
 use Rattle.std.specs.declared.option.Option.{Option}
 use Rattle.std.specs.declared.option.Option.the-variants.{Some, None}
-use Rattle.std.proofs.shelf.Tests.{eqb-true, or-parts, and-cases, both-ways, cases-bool}
+use Rattle.std.proofs.shelf.Tests.{eqb-true, or-parts, and-cases, both-ways}
 use Rattle.ladders.specs.Sets.{holds}
 use Rattle.ladders.proofs.Sets.{or-holds, power-holds, zero-holds}
 use Rattle.rules.specs.declared.rule.Effect.{Effect}

@@ -5,9 +5,8 @@ use mathlib.Core.Bool.{Bool, true, false, cond}
 use mathlib.Core.Logic.{_⊎_, inl, inr, ⊎-elim}
 use Prim.Native.Nat.{ℕ, zero, suc, _+_, _-_, _<_, _≤_}
 use native.Mathlib.Omega.{arith}
-use native.Mathlib.Nat.{add-comm}
-use lib.Dec.{eqb, ltb}
-use lib.ListN.{length, take, drop, length-append}
+use lib.Dec.{ltb}
+use lib.ListN.{length, take, drop}
 use Rattle.std.specs.Finite.{nth}
 use Rattle.std.specs.declared.option.Option.{Option}
 use Rattle.std.specs.declared.option.Option.the-variants.{Some, None}
@@ -16,8 +15,8 @@ use Rattle.std.specs.declared.result.Result.the-variants.{Ok, Err}
 use Rattle.std.specs.shelf.Lists.{All, joined}
 use Rattle.std.proofs.shelf.Elements.{all-append}
 use Rattle.std.proofs.shelf.Lists.{take-take}
-use Rattle.std.proofs.shelf.Tests.{both-ways, cases-order, lt-ltb, cond-both}
-use Rattle.lines.specs.Lines.{Span, span, Unbroken, FirstLine, ended, cut-off, Lines, none, more}
+use Rattle.std.proofs.shelf.Tests.{both-ways, cases-order, lt-ltb}
+use Rattle.lines.specs.Lines.{Span, span, Unbroken, ended, cut-off, Lines, none, more}
 use Rattle.lines.specs.declared.reader.Place.{Place}
 use Rattle.lines.proofs.Past.{lines-end, lines-step}
 use Rattle.lines.proofs.Split.{lines-one, lines-some, lines-number, lines-apart}
@@ -34,15 +33,14 @@ use Rattle.rulefile.specs.declared.grammar.Grammar.{Grammar}
 use Rattle.rulefile.specs.declared.grammar.Name.{Name}
 use Rattle.rulefile.specs.declared.grammar.Name.the-variants.{Condition, Post}
 use Rattle.rulefile.specs.declared.grammar.Item.{Item}
-use Rattle.rulefile.specs.declared.grammar.Listing.{Listing}
 use Rattle.rulefile.specs.declared.faults.FileFault.{FileFault}
 use Rattle.rulefile.specs.declared.faults.FileFault.the-variants.{WrongHead}
 use Rattle.rulefile.specs.Faults.{Kind, wrong-head, no-mark, not-due, out-of-range, repeated, not-allowed, no-slot, number, place, placeOf, kindOf}
-use Rattle.rulefile.specs.Items.{Known, byteOf, text, spelled, Follow, markOf, Spells}
+use Rattle.rulefile.specs.Items.{Known, byteOf, text, spelled, markOf, Spells}
 use Rattle.rulefile.specs.Faulty.{Fault}
 use Rattle.rulefile.specs.RuleLines.{silent}
 use Rattle.rules.specs.Letters.{letterByte}
-use Rattle.rulefile.specs.Files.{headLine, Head, grammar, Say, nothing, silence, a-rule, ByGrammar, ruleLines, NoHead, Headless, InLine, FaultAt, FirstAt, SaidBefore, filled, Answers, OneReading, EveryRule}
+use Rattle.rulefile.specs.Files.{headLine, Head, grammar, Say, nothing, silence, a-rule, ByGrammar, ruleLines, NoHead, Headless, InLine, FaultAt, FirstAt, Answers, OneReading, EveryRule}
 use Rattle.rulefile.specs.Steps.{fresh, drafted, finished, headOf, Stopped, RestSays, listing}
 use Rattle.rulefile.proofs.Drafts.{means-drafted, drafted-effect}
 use Rattle.rulefile.proofs.LineLaw.{follow-known}

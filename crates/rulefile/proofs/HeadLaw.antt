@@ -1,7 +1,6 @@
 -- The first line tells its letter and its number of conditions, in one way.
 use mathlib.Core.Path.{_≡_, refl, sym, ap, ap₂, _∙_, subst}
 use mathlib.Core.List.{List, [], _∷_}
-use mathlib.Core.Bool.{Bool, true, false}
 use Prim.Native.Nat.{ℕ, _+_, _-_, _≤_}
 use native.Mathlib.Omega.{arith}
 use lib.Dec.{eqb}
@@ -13,7 +12,7 @@ use Rattle.rules.specs.declared.letter.Letter.{Letter}
 use Rattle.rules.specs.declared.letter.Letter.the-variants.{Guarded, Model}
 use Rattle.rules.specs.declared.letter.Model.the-variants.{A, B, C, D}
 use Rattle.rules.specs.Letters.{letterByte}
-use Rattle.rulefile.specs.Files.{headLine, Head}
+use Rattle.rulefile.specs.Files.{Head}
 use Rattle.rulefile.specs.Steps.{letterOf, digitOf, both, headOf}
 
 letter-told : (l : Letter) → letterOf (letterByte l) ≡ Some l

@@ -1,8 +1,8 @@
 -- What the reader answers of an item is what stands there: an item that fits, or the first place at fault.
 use mathlib.Core.Path.{_≡_, refl, sym, ap, _∙_, subst}
 use mathlib.Core.List.{List, [], _∷_, _++_}
-use mathlib.Core.Bool.{Bool, true, false, cond}
-use mathlib.Core.Logic.{_⊎_, inl, inr, ⊎-elim}
+use mathlib.Core.Bool.{true, false}
+use mathlib.Core.Logic.{inl, inr}
 use Prim.Native.Nat.{ℕ, _+_, _<_, _≤_}
 use native.Mathlib.Omega.{arith}
 use native.Mathlib.Nat.{add-zero}
@@ -25,9 +25,9 @@ use Rattle.rulefile.specs.declared.faults.ItemFault.the-variants.{NotDue, OutO
 use Rattle.rulefile.specs.declared.faults.LineFault.{LineFault}
 use Rattle.rulefile.specs.declared.faults.LineFault.the-variants.{Item as InItem, Repeated, NotAllowed}
 use Rattle.rulefile.specs.Faults.{Kind, wrong-head, no-mark, not-due, out-of-range, repeated, not-allowed, no-slot, number, place, lineKind, linePlace}
-use Rattle.rulefile.specs.Items.{nameOf, byteOf, Known, item, text, spelled, again, Within, Fits}
+use Rattle.rulefile.specs.Items.{nameOf, item, spelled, again, Within, Fits}
 use Rattle.rulefile.specs.Faulty.{Begun, between, spaced, banged, begun, barring, Due, Amiss}
-use Rattle.rulefile.specs.Steps.{isGuarded, within, knownName, nameRead, withRest, itemOf, newItem, nextPlace, afterBang, afterSpace, itemRead, repeats}
+use Rattle.rulefile.specs.Steps.{isGuarded, within, knownName, withRest, itemOf, newItem, nextPlace, afterBang, afterSpace, itemRead, repeats}
 use Rattle.rulefile.proofs.Spelling.{name-byte, name-known}
 use Rattle.rulefile.proofs.Places.{Ready, bang-named}
 

@@ -8,7 +8,6 @@ use native.Mathlib.Omega.{arith}
 use native.Mathlib.Nat.{add-zero}
 use lib.Dec.{eqb}
 use lib.ListN.{length, length-append}
-use Rattle.std.specs.declared.option.Option.the-variants.{Some, None}
 use Rattle.std.specs.declared.result.Result.{Result}
 use Rattle.std.specs.declared.result.Result.the-variants.{Ok, Err}
 use Rattle.std.specs.shelf.Lists.{All, joined}
@@ -24,11 +23,10 @@ use Rattle.rulefile.specs.declared.grammar.Item.{Item}
 use Rattle.rulefile.specs.declared.draft.Draft.{Draft}
 use Rattle.rulefile.specs.declared.faults.LineFault.{LineFault}
 use Rattle.rulefile.specs.declared.faults.LineFault.the-variants.{NoMark, NotAllowed}
-use Rattle.rulefile.specs.declared.faults.FileFault.{FileFault}
 use Rattle.rulefile.specs.declared.faults.FileFault.the-variants.{Line, NoSlot}
 use Rattle.rulefile.specs.Faults.{Kind, wrong-head, no-mark, not-due, out-of-range, repeated, not-allowed, no-slot, number, place, lineKind, linePlace}
-use Rattle.rulefile.specs.Items.{Known, spelled, again, Fits, Follow, markOf, Means, Spells}
-use Rattle.rulefile.specs.Faulty.{Begun, begun, Amiss, InItems, AtMark, Fault, FirstFault}
+use Rattle.rulefile.specs.Items.{Known, spelled, again, Follow, markOf, Means, Spells}
+use Rattle.rulefile.specs.Faulty.{Begun, begun, Amiss, InItems, AtMark, FirstFault}
 use Rattle.rulefile.specs.RuleLines.{LineSays}
 use Rattle.rulefile.specs.Steps.{fresh, isGuarded, itemRead, ItemsRead, end, bad, more, withItem, drafted, finished, nextPlace, markRead, repeats, inFile}
 use Rattle.rulefile.proofs.Drafts.{repeats-again, means-drafted, drafted-effect, drafted-push, follow-push}

@@ -3,19 +3,19 @@ use mathlib.Core.Path.{_≡_, refl, sym, ap, ap₂, _∙_, subst}
 use mathlib.Core.List.{List, [], _∷_, _++_, append-assoc, append-nil}
 use mathlib.Core.Bool.{Bool, true, false}
 use mathlib.Core.Logic.{_⊎_, inl, inr, ⊎-elim}
-use Prim.Native.Nat.{ℕ, suc, _+_, _<_, _≤_}
+use Prim.Native.Nat.{ℕ, _+_, _<_}
 use native.Mathlib.Omega.{arith}
 use lib.ListN.{length, length-append}
-use Rattle.std.specs.declared.option.Option.the-variants.{Some, None}
+use Rattle.std.specs.declared.option.Option.the-variants.{Some}
 use Rattle.std.specs.shelf.Lists.{All, joined}
 use Rattle.std.proofs.shelf.Tests.{both-ways}
 use Rattle.rules.specs.declared.letter.Letter.the-variants.{Guarded}
 use Rattle.rulefile.specs.declared.grammar.Grammar.{Grammar}
 use Rattle.rulefile.specs.declared.grammar.Name.{Name}
 use Rattle.rulefile.specs.declared.grammar.Item.{Item}
-use Rattle.rulefile.specs.Faults.{Kind, wrong-head, no-mark, not-due, out-of-range, repeated, not-allowed, no-slot, number}
+use Rattle.rulefile.specs.Faults.{Kind, wrong-head, no-mark, not-due, out-of-range, repeated, not-allowed, no-slot}
 use Rattle.rulefile.specs.Items.{nameOf, byteOf, Known, item, text, spelled, again, Within, Fits, Follow}
-use Rattle.rulefile.specs.Faulty.{Begun, between, spaced, banged, begun, barring, Due, Named, Bang, Amiss}
+use Rattle.rulefile.specs.Faulty.{Begun, between, spaced, banged, begun, Amiss}
 use Rattle.rulefile.proofs.Spelling.{byte-name, no-bang, text-same}
 
 -- a space between items is not at fault

@@ -8,7 +8,7 @@ use native.Mathlib.Omega.{arith}
 use lib.Dec.{eqb}
 use lib.ListN.{length, length-append}
 use Rattle.std.specs.shelf.Lists.{All, joined}
-use Rattle.std.proofs.shelf.Tests.{both-ways, eq-eqb, ne-eqb, or-cases, cases-bool, and-parts}
+use Rattle.std.proofs.shelf.Tests.{both-ways, eq-eqb, or-cases, cases-bool}
 use Rattle.ladders.proofs.Sets.{bits-same}
 use Rattle.rules.specs.declared.rule.Effect.{Effect}
 use Rattle.rules.specs.declared.rule.Effect.the-variants.{Permit, Deny}
@@ -18,10 +18,9 @@ use Rattle.rulefile.specs.declared.grammar.Name.{Name}
 use Rattle.rulefile.specs.declared.grammar.Name.the-variants.{Condition, Post}
 use Rattle.rulefile.specs.declared.grammar.Item.{Item}
 use Rattle.rulefile.specs.Faults.{Kind, wrong-head, no-mark, not-due, out-of-range, repeated, not-allowed, no-slot}
-use Rattle.rulefile.specs.Items.{Known, item, spelled, any, isPost, digit, plainDigit, Follow, Means, markOf, Spells}
-use Rattle.rulefile.specs.Faulty.{Begun, between, begun, Amiss, InItems, AtMark, Fault}
+use Rattle.rulefile.specs.Items.{Known, item, spelled, any, isPost, digit, plainDigit, Means, markOf, Spells}
+use Rattle.rulefile.specs.Faulty.{between, begun, Amiss, AtMark, Fault}
 use Rattle.rulefile.specs.RuleLines.{silent}
-use Rattle.rulefile.specs.Files.{Say, nothing, silence, a-rule}
 use Rattle.rulefile.proofs.Places.{first-place}
 use Rattle.rulefile.proofs.LineLaw.{follow-known, marked}
 use Rattle.rulefile.proofs.Spelling.{text-same}

@@ -1,26 +1,25 @@
 -- Reading the rule lines one after the other: what is read so far, and each way on.
 use mathlib.Core.Path.{_≡_, refl, sym, ap, ap₂, _∙_, subst}
 use mathlib.Core.List.{List, [], _∷_, _++_, append-assoc, append-nil}
-use mathlib.Core.Bool.{Bool, true, false}
-use Prim.Native.Nat.{ℕ, suc, _+_, _<_, _≤_}
+use mathlib.Core.Bool.{Bool, true}
+use Prim.Native.Nat.{ℕ, _+_, _<_, _≤_}
 use native.Mathlib.Omega.{arith}
 use lib.Dec.{ltb}
 use lib.ListN.{length, take, drop, set, getD}
 use denote.Ref.{RefT}
 use Rattle.std.specs.Finite.{nth}
-use Rattle.std.specs.declared.option.Option.the-variants.{Some, None}
+use Rattle.std.specs.declared.option.Option.the-variants.{Some}
 use Rattle.std.specs.declared.result.Result.the-variants.{Ok, Err}
-use Rattle.std.proofs.shelf.Lists.{length-append, length-drop, length-push, drop-more, set-at, take-at}
+use Rattle.std.proofs.shelf.Lists.{length-push, drop-more, set-at, take-at}
 use Rattle.lines.specs.Handed.{Stepped}
 use Rattle.lines.specs.Lines.{Span, span, FirstLine, Lines}
 use Rattle.lines.specs.declared.reader.Line.{Line}
-use Rattle.lines.specs.declared.reader.Place.{Place}
 use Rattle.lines.proofs.Past.{past-next, lines-end}
 use Rattle.lines.proofs.Split.{lines-one}
 use Rattle.rules.specs.declared.rule.Rule.{Rule}
 use Rattle.rulefile.specs.declared.grammar.Grammar.{Grammar}
 use Rattle.rulefile.specs.declared.faults.FileFault.{FileFault}
-use Rattle.rulefile.specs.Faults.{kindOf, place, placeOf}
+use Rattle.rulefile.specs.Faults.{kindOf, place}
 use Rattle.rulefile.specs.Items.{Spells}
 use Rattle.rulefile.specs.Faulty.{FirstFault}
 use Rattle.rulefile.specs.RuleLines.{silent, LineSays}

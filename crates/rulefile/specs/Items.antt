@@ -11,8 +11,7 @@ use Rattle.ladders.specs.Sets.{holds}
 use Rattle.rules.specs.declared.rule.Effect.{Effect}
 use Rattle.rules.specs.declared.rule.Effect.the-variants.{Permit, Deny}
 use Rattle.rules.specs.declared.rule.Rule.{Rule}
-use Rattle.rules.specs.declared.letter.Letter.{Letter}
-use Rattle.rules.specs.declared.letter.Letter.the-variants.{Guarded, Model}
+use Rattle.rules.specs.declared.letter.Letter.the-variants.{Guarded}
 use Rattle.rulefile.specs.declared.grammar.Grammar.{Grammar}
 use Rattle.rulefile.specs.declared.grammar.Name.{Name}
 use Rattle.rulefile.specs.declared.grammar.Name.the-variants.{Condition, Post}

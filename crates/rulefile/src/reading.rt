@@ -1,5 +1,4 @@
 // Reading a rule file into lent slots.
-ghost use mathlib.Core.Path.{_≡_};
 ghost use mathlib.Core.List.{List};
 ghost use Prim.Native.Nat.{_+_};
 ghost use lib.ListN.{drop};

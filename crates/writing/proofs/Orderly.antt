@@ -9,16 +9,15 @@ use lib.Dec.{eqb, ltb}
 use Rattle.std.specs.declared.option.Option.{Option}
 use Rattle.std.specs.declared.option.Option.the-variants.{Some, None}
 use Rattle.std.specs.Vec.{listOf}
-use Rattle.std.proofs.shelf.Tests.{both-ways, cases-bool, cases-eq, eq-eqb, ne-eqb, eqb-true, eqb-false, lt-ltb, le-ltb, ltb-true, ltb-false, or-from, or-cases, or-parts, and-right, and-parts}
+use Rattle.std.proofs.shelf.Tests.{both-ways, cases-bool, cases-eq, eq-eqb, ne-eqb, eqb-true, lt-ltb, le-ltb, ltb-true, ltb-false, or-from, or-parts, and-right, and-parts}
 use Rattle.ladders.specs.Sets.{holds}
 use Rattle.rules.specs.declared.rule.Effect.the-variants.{Permit}
 use Rattle.rules.specs.declared.rule.Rule.{Rule}
 use Rattle.rules.specs.declared.letter.Letter.the-variants.{Guarded}
 use Rattle.rulefile.specs.declared.grammar.Grammar.{Grammar}
-use Rattle.rulefile.specs.declared.grammar.Name.{Name}
 use Rattle.rulefile.specs.declared.grammar.Name.the-variants.{Condition, Post}
 use Rattle.rulefile.specs.declared.grammar.Item.{Item}
-use Rattle.rulefile.specs.Items.{any, sameName, isCondition, isPost, plainDigit, again, item, Known, Within, Fits, Follow, Means}
+use Rattle.rulefile.specs.Items.{any, sameName, isCondition, isPost, plainDigit, item, Fits, Follow, Means}
 use Rattle.writing.specs.Written.{floorItem, postItem, conditionItem, rising, writtenItems}
 
 or-assoc : (a b c : Bool) → ((a || b) || c) ≡ (a || (b || c))

@@ -1,9 +1,9 @@
 -- Some line gives a rule exactly where its parts are in range, apart, and allowed by the letter.
-use mathlib.Core.Path.{_≡_, refl, sym, ap, ap₂, subst, _∙_}
+use mathlib.Core.Path.{_≡_, refl, sym, ap, subst, _∙_}
 use mathlib.Core.List.{List, [], _∷_, _++_}
 use mathlib.Core.Bool.{Bool, true, false, not, _&&_, _||_}
-use mathlib.Core.Logic.{_⊎_, inl, inr, ⊎-elim}
-use Prim.Native.Nat.{ℕ, _+_, _*_, _/_, _%_, _^_, _<_, _≤_}
+use mathlib.Core.Logic.{_⊎_, ⊎-elim}
+use Prim.Native.Nat.{ℕ, _+_, _*_, _/_, _^_, _<_, _≤_}
 use native.Mathlib.Omega.{arith}
 use native.Mathlib.Nat.{zero-mul}
 use lib.Bits.{bitAnd}
@@ -11,7 +11,6 @@ use lib.Dec.{eqb, ltb}
 use Rattle.std.specs.Orderings.{Decides}
 use Rattle.std.proofs.shelf.Bits.{shr-split, mod-below, pow-pos}
 use Rattle.std.proofs.shelf.Tests.{cases-lt, eq-eqb, lt-ltb, ltb-true, and-from, not-from-false, both-ways, cases-bool, cases-eq, eqb-true, or-cases, or-left, or-right, or-parts, and-parts, not-true}
-use Rattle.std.specs.shelf.Lists.{joined}
 use Rattle.ladders.specs.Sets.{holds}
 use Rattle.ladders.proofs.Sets.{zero-holds, no-members, none-past, all-below, and-none, none-and}
 use Rattle.rules.specs.declared.rule.Effect.{Effect}
@@ -23,7 +22,7 @@ use Rattle.rulefile.specs.declared.grammar.Grammar.{Grammar}
 use Rattle.rulefile.specs.declared.grammar.Name.{Name}
 use Rattle.rulefile.specs.declared.grammar.Name.the-variants.{Condition, Post}
 use Rattle.rulefile.specs.declared.grammar.Item.{Item}
-use Rattle.rulefile.specs.Items.{any, sameName, isCondition, isPost, plainDigit, again, spelled, Within, Fits, Follow, Means, Spells, markOf}
+use Rattle.rulefile.specs.Items.{any, sameName, isPost, plainDigit, Within, Follow, Means, Spells}
 use Rattle.rulefile.proofs.Readings.{plain-some}
 use Rattle.writing.specs.Written.{writtenItems, lineOf}
 use Rattle.rules.specs.Rules.{barsNothing}

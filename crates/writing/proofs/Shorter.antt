@@ -1,19 +1,18 @@
 -- The text of a list is at most one byte longer than any file that holds the list.
-use mathlib.Core.Path.{_≡_, refl, sym, ap, ap₂, subst, _∙_}
-use mathlib.Core.List.{List, [], _∷_, _++_, map}
+use mathlib.Core.Path.{_≡_, refl, sym, ap, ap₂, _∙_}
+use mathlib.Core.List.{List, [], _∷_, map}
 use mathlib.Core.Bool.{Bool, true, false, cond, not, _&&_}
 use mathlib.Core.Logic.{_⊎_, inl, inr, ⊎-elim}
 use Prim.Native.Nat.{ℕ, zero, suc, _+_, _-_, _<_, _≤_}
 use native.Mathlib.Numerals.{add-one}
 use native.Mathlib.Omega.{arith}
-use lib.Dec.{eqb, ltb}
+use lib.Dec.{eqb}
 use lib.ListN.{length, length-append}
-use Rattle.std.specs.declared.option.Option.{Option}
 use Rattle.std.specs.declared.option.Option.the-variants.{Some, None}
 use Rattle.std.specs.Vec.{listOf}
 use Rattle.std.specs.shelf.Lists.{joined}
 use Rattle.std.proofs.shelf.Tests.{both-ways, cases-eq, or-cases, and-parts, not-true, eq-eqb, ne-eqb, eqb-false, cond-true, cond-false, cond-both}
-use Rattle.lines.specs.Lines.{Span, FirstLine, ended, cut-off, Lines, none, more}
+use Rattle.lines.specs.Lines.{Span, Lines, none, more}
 use Rattle.lines.proofs.Split.{lines-cases, first-cases, no-first}
 use Rattle.ladders.specs.Sets.{holds}
 use Rattle.rules.specs.declared.rule.Rule.{Rule}
@@ -22,9 +21,9 @@ use Rattle.rulefile.specs.declared.grammar.Grammar.{Grammar}
 use Rattle.rulefile.specs.declared.grammar.Name.{Name}
 use Rattle.rulefile.specs.declared.grammar.Name.the-variants.{Condition, Post}
 use Rattle.rulefile.specs.declared.grammar.Item.{Item}
-use Rattle.rulefile.specs.Items.{any, sameName, item, text, spelled, Means, Spells, markOf}
-use Rattle.rulefile.specs.Files.{headLine, Say, nothing, silence, a-rule, ByGrammar}
-use Rattle.writing.specs.Written.{floorItem, postItem, conditionItem, rising, lineOf, lined, written}
+use Rattle.rulefile.specs.Items.{any, sameName, item, text, spelled, Means, Spells}
+use Rattle.rulefile.specs.Files.{Say, nothing, silence, a-rule, ByGrammar}
+use Rattle.writing.specs.Written.{floorItem, rising, lineOf, lined, written}
 use Rattle.writing.specs.Steps.{placedItem}
 use Rattle.writing.proofs.Places.{text-start, text-more, line-placed, placed-cases}
 use Rattle.writing.proofs.Sayings.{same-name, floor-named}

@@ -1,20 +1,20 @@
 -- The text of a lawful list, read back, is the list.
 use mathlib.Core.Path.{_≡_, refl, sym, ap, ap₂, subst, _∙_}
 use mathlib.Core.List.{List, [], _∷_, _++_, map}
-use Prim.Native.Nat.{ℕ, suc, _+_, _-_, _<_, _≤_}
+use Prim.Native.Nat.{ℕ, suc, _+_, _-_, _≤_}
 use native.Mathlib.Omega.{arith}
 use lib.ListN.{length}
 use Rattle.std.specs.declared.result.Result.{Result}
 use Rattle.std.specs.declared.result.Result.the-variants.{Ok, Err}
-use Rattle.std.specs.shelf.Lists.{All, joined}
+use Rattle.std.specs.shelf.Lists.{All}
 use Rattle.std.proofs.shelf.Elements.{all-weaker}
-use Rattle.lines.specs.Lines.{Span, span, Unbroken, FirstLine, ended, Lines, none, more}
+use Rattle.lines.specs.Lines.{Span, span, Unbroken, ended, Lines, none, more}
 use Rattle.rules.specs.declared.rule.Rule.{Rule}
 use Rattle.rules.specs.declared.letter.Letter.{Letter}
 use Rattle.rulefile.specs.declared.grammar.Grammar.{Grammar}
 use Rattle.rulefile.specs.declared.grammar.Listing.{Listing}
 use Rattle.rulefile.specs.declared.faults.FileFault.{FileFault}
-use Rattle.rulefile.specs.Items.{spelled, markOf, Spells}
+use Rattle.rulefile.specs.Items.{Spells}
 use Rattle.rulefile.specs.Files.{headLine, grammar, Say, nothing, silence, a-rule, ByGrammar, filled, Answers}
 use Rattle.rulefile.proofs.FileLaw.{items-unbroken, mark-unbroken, letter-unbroken, one-reading}
 use Rattle.rulefile.proofs.LineLaw.{follow-known}

@@ -2,7 +2,7 @@
 ghost use mathlib.Core.Path.{_≡_};
 ghost use mathlib.Core.List.{[], _∷_, _++_};
 ghost use Prim.Native.Nat.{_+_, _<_, _≤_};
-ghost use lib.ListN.{length, take};
+ghost use lib.ListN.{length};
 ghost use Rattle.rulefile.specs.Items.{Known, byteOf, spelled, markOf};
 ghost use Rattle.writing.specs.Written.{lineOf};
 ghost use Rattle.writing.specs.Steps.{over};

@@ -1,8 +1,6 @@
 // The items of a rule in the order in which they are written.
 ghost use mathlib.Core.Path.{_≡_};
 ghost use Prim.Native.Nat.{_<_};
-ghost use Rattle.std.specs.Options.{Cases as BySome};
-ghost use Rattle.rulefile.specs.Items.{Known};
 ghost use Rattle.writing.specs.Written.{floorItem, postItem, conditionItem};
 ghost use Rattle.writing.specs.Steps.{placedItem};
 use ladders::has;

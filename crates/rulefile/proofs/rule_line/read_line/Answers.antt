@@ -1,9 +1,8 @@
-use mathlib.Core.Path.{_≡_, sym, subst}
+use mathlib.Core.Path.{sym, subst}
 use mathlib.Core.Bool.{Bool}
 use mathlib.Core.List.{List, _∷_}
 use Prim.Native.Nat.{ℕ, _<_}
 use native.Mathlib.Omega.{arith}
-use borrow.Author.Needs.{needs}
 use borrow.Author.Tests.{ltb-false}
 use lib.ListN.{length, getD}
 use Rattle.std.specs.Holes.{between}
@@ -20,7 +19,6 @@ use Rattle.rulefile.specs.declared.grammar.Grammar.{Grammar}
 use Rattle.rulefile.specs.declared.faults.FileFault.{FileFault}
 use Rattle.rulefile.specs.declared.faults.FileFault.the-variants.{Line, NoSlot}
 use Rattle.rulefile.specs.RuleLines.{LineSays}
-use Rattle.rulefile.specs.Steps.{fresh, ItemsRead, nextPlace}
 use Rattle.rulefile.proofs.LineLaw.{wrong-mark, slotless, itemed-line}
 use Rattle.rulefile.proofs.rule_line.read_line.Needs as need
 

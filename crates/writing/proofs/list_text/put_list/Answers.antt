@@ -1,7 +1,6 @@
-use mathlib.Core.Path.{_≡_, sym, ap, _∙_}
-use mathlib.Core.List.{List, [], _∷_, _++_, map}
+use mathlib.Core.Path.{_∙_}
+use mathlib.Core.List.{[], _∷_, _++_, map}
 use native.Mathlib.Omega.{arith}
-use lib.ListN.{length}
 use Rattle.rulefile.specs.Files.{headLine}
 use Rattle.writing.specs.Written.{lineOf, lined, written}
 use Rattle.writing.proofs.Overs.{put-more, over-front}

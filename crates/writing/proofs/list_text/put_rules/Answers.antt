@@ -1,13 +1,13 @@
-use mathlib.Core.Path.{_≡_, sym, ap, _∙_}
-use mathlib.Core.List.{List, [], _∷_, _++_, map}
+use mathlib.Core.Path.{sym, ap, _∙_}
+use mathlib.Core.List.{List, map}
 use Prim.Native.Nat.{ℕ, _+_, _<_, _≤_}
 use native.Mathlib.Omega.{arith}
-use lib.ListN.{length, take, getD}
+use lib.ListN.{length, take}
 use Rattle.std.proofs.shelf.Elements.{all-getD}
 use Rattle.writing.specs.Written.{lineOf, lined}
 use Rattle.writing.specs.Steps.{over}
 use Rattle.writing.proofs.Lined.{blank, lined-more, length-lined-more, lined-within, lined-all}
-use Rattle.writing.proofs.Overs.{over-none, put-more, next-more}
+use Rattle.writing.proofs.Overs.{over-none, put-more}
 use Rattle.writing.proofs.list_text.put_rules.Needs as need
 
 pub loop-rule-holds : need.loop-rule-holds

@@ -1,13 +1,10 @@
-use mathlib.Core.Path.{sym, ap, subst}
-use native.Mathlib.Omega.{arith}
-use lib.ListN.{getD}
+use mathlib.Core.Path.{sym, subst}
 use Rattle.std.specs.shelf.Lists.{All}
 use Rattle.std.proofs.shelf.Elements.{all-more}
 use Rattle.std.proofs.shelf.Lists.{take-all}
 use Rattle.std.proofs.shelf.Maps.{nth-getD}
 use Rattle.std.proofs.shelf.Ways.{not-from-decides}
 use Rattle.writing.specs.Writes.{Sayable}
-use Rattle.writing.specs.Steps.{canSay}
 use Rattle.writing.proofs.Sayings.{decides-sayable}
 use Rattle.writing.proofs.saying.first_unsaid.Needs as need
 
