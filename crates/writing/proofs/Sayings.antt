@@ -54,21 +54,14 @@ named-before g y before (i ∷ is) h e k =
     named-before g y (before ++ (i ∷ [])) is (h .1) (any-append (λ j. sameName (j .name) y) before (i ∷ []) ∙ or-left (any (λ j. sameName (j .name) y) before) (any (λ j. sameName (j .name) y) (i ∷ [])) e) p)
     (or-cases (sameName (i .name) y) (any (λ i. sameName (i .name) y) is) k)
 
-plain-named : (y : Name) (is : List Item) → any (λ i. not (i .barred) && sameName (i .name) y) is ≡ true → any (λ i. sameName (i .name) y) is ≡ true
-plain-named y [] h = h
-plain-named y (i ∷ is) h =
+-- what is named under a test is named
+tested-named : (b : Item → Bool) (y : Name) (is : List Item) → any (λ i. b i && sameName (i .name) y) is ≡ true → any (λ i. sameName (i .name) y) is ≡ true
+tested-named b y [] h = h
+tested-named b y (i ∷ is) h =
     ⊎-elim
-    (λ p. or-left (sameName (i .name) y) (any (λ j. sameName (j .name) y) is) (and-parts (not (i .barred)) (sameName (i .name) y) p .1))
-    (λ p. or-right (sameName (i .name) y) (any (λ j. sameName (j .name) y) is) (plain-named y is p))
-    (or-cases (not (i .barred) && sameName (i .name) y) (any (λ i. not (i .barred) && sameName (i .name) y) is) h)
-
-barred-named : (y : Name) (is : List Item) → any (λ i. i .barred && sameName (i .name) y) is ≡ true → any (λ i. sameName (i .name) y) is ≡ true
-barred-named y [] h = h
-barred-named y (i ∷ is) h =
-    ⊎-elim
-    (λ p. or-left (sameName (i .name) y) (any (λ j. sameName (j .name) y) is) (and-parts (i .barred) (sameName (i .name) y) p .1))
-    (λ p. or-right (sameName (i .name) y) (any (λ j. sameName (j .name) y) is) (barred-named y is p))
-    (or-cases (i .barred && sameName (i .name) y) (any (λ i. i .barred && sameName (i .name) y) is) h)
+    (λ p. or-left (sameName (i .name) y) (any (λ j. sameName (j .name) y) is) (and-parts (b i) (sameName (i .name) y) p .1))
+    (λ p. or-right (sameName (i .name) y) (any (λ j. sameName (j .name) y) is) (tested-named b y is p))
+    (or-cases (b i && sameName (i .name) y) (any (λ i. b i && sameName (i .name) y) is) h)
 
 -- a line names nothing both plain and barred
 named-once : (g : Grammar) (y : Name) (before is : List Item) → Follow g before is → any (λ i. not (i .barred) && sameName (i .name) y) is ≡ true → any (λ i. i .barred && sameName (i .name) y) is ≡ true → ⊥
@@ -78,10 +71,10 @@ named-once g y before (i ∷ is) h p q =
     (λ (a : (not (i .barred) && sameName (i .name) y) ≡ true).
     let plain = and-parts (not (i .barred)) (sameName (i .name) y) a in
     ⊎-elim (λ (b : (i .barred && sameName (i .name) y) ≡ true). both-ways (i .barred) (not-true (i .barred) (plain .0)) (and-parts (i .barred) (sameName (i .name) y) b .0))
-    (λ (b : any (λ i. i .barred && sameName (i .name) y) is ≡ true). here (plain .1) (barred-named y is b))
+    (λ (b : any (λ i. i .barred && sameName (i .name) y) is ≡ true). here (plain .1) (tested-named (λ i. i .barred) y is b))
     (or-cases (i .barred && sameName (i .name) y) (any (λ i. i .barred && sameName (i .name) y) is) q))
     (λ (a : any (λ i. not (i .barred) && sameName (i .name) y) is ≡ true).
-    ⊎-elim (λ (b : (i .barred && sameName (i .name) y) ≡ true). here (and-parts (i .barred) (sameName (i .name) y) b .1) (plain-named y is a))
+    ⊎-elim (λ (b : (i .barred && sameName (i .name) y) ≡ true). here (and-parts (i .barred) (sameName (i .name) y) b .1) (tested-named (λ i. not (i .barred)) y is a))
     (λ (b : any (λ i. i .barred && sameName (i .name) y) is ≡ true). named-once g y (before ++ (i ∷ [])) is (h .1) a b)
     (or-cases (i .barred && sameName (i .name) y) (any (λ i. i .barred && sameName (i .name) y) is) q))
     (or-cases (not (i .barred) && sameName (i .name) y) (any (λ i. not (i .barred) && sameName (i .name) y) is) p)

@@ -90,16 +90,14 @@ some-at f k w (i ∷ is) h each =
     (or-cases (f i) (any f is) h)
 
 -- the place and the weight of an item with this name, plain or barred
+named-at : (p : Bool) (y : Name) (k : ℕ) → place p y ≡ k → (i : Item) → i .barred ≡ p → sameName (i .name) y ≡ true → (place (i .barred) (i .name) ≡ k) × (length (text p y) ≡ weight i)
+named-at p y k e i b s = let n = same-name (i .name) y s in (ap₂ place b n ∙ e, sym (ap₂ (λ q x. length (text q x)) b n))
+
 named-plain : (y : Name) (k : ℕ) → place false y ≡ k → (i : Item) → (not (i .barred) && sameName (i .name) y) ≡ true → (place (i .barred) (i .name) ≡ k) × (2 ≡ weight i)
-named-plain y k e i h =
-    let both = and-parts (not (i .barred)) (sameName (i .name) y) h in
-    let b = not-true (i .barred) (both .0) in
-    (ap₂ place b (same-name (i .name) y (both .1)) ∙ e, sym (ap (λ p. length (text p (i .name))) b))
+named-plain y k e i h = let both = and-parts (not (i .barred)) (sameName (i .name) y) h in named-at false y k e i (not-true (i .barred) (both .0)) (both .1)
 
 named-barred : (y : Name) (k : ℕ) → place true y ≡ k → (i : Item) → (i .barred && sameName (i .name) y) ≡ true → (place (i .barred) (i .name) ≡ k) × (3 ≡ weight i)
-named-barred y k e i h =
-    let both = and-parts (i .barred) (sameName (i .name) y) h in
-    (ap₂ place (both .0) (same-name (i .name) y (both .1)) ∙ e, sym (ap (λ p. length (text p (i .name))) (both .0)))
+named-barred y k e i h = let both = and-parts (i .barred) (sameName (i .name) y) h in named-at true y k e i (both .0) (both .1)
 
 module _ (is : List Item) (t : Rule) (m : Means is t) where
   -- what is written at a place, some item has there
