@@ -1,8 +1,8 @@
 -- One member more of a row, and one row more of the rows.
-use mathlib.Core.Path.{_≡_, refl, sym, ap, subst, _∙_}
+use mathlib.Core.Path.{_≡_, sym, ap, subst, _∙_}
 use mathlib.Core.Logic.{⊎-elim}
 use mathlib.Core.List.{List}
-use mathlib.Core.Bool.{Bool, true, false, _&&_, _||_}
+use mathlib.Core.Bool.{Bool, true, false, _&&_, _||_, and-true, and-false, or-false}
 use Prim.Native.Nat.{ℕ, _+_, _*_, _%_, _^_, _<_}
 use native.Mathlib.Nat.{zero-div}
 use native.Mathlib.Omega.{arith}
@@ -45,34 +45,18 @@ fill-next f q k =
     ∙ ap (λ t. t && f k) (sym (le-ltb k (q + 1) (omega arith))))
     ne)
     (cases-order k q)
-  where
-    or-false : (b : Bool) → (b || false) ≡ b
-    or-false true = refl
-    or-false false = refl
 
 pub fill-set : (f : ℕ → Bool) (q m n : ℕ) → q < 8 → Filled f q m → f q ≡ true → n ≡ bitOr m ((1 * 2 ^ q) % 256) → Filled f (q + 1) n
 fill-set f q m n h inv t e k =
     ap (λ x. holds x k) (e ∙ ap (bitOr m) (one-shl q 8 h))
     ∙ or-holds m (2 ^ q) k
     ∙ ap (λ b. b || holds (2 ^ q) k) (inv k)
-    ∙ ap (λ b. (ltb k q && f k) || b) (power-holds q k ∙ and-true (eqb q k) ∙ ap (λ b. eqb q k && b) (sym t))
+    ∙ ap (λ b. (ltb k q && f k) || b) (power-holds q k ∙ sym (and-true (eqb q k)) ∙ ap (λ b. eqb q k && b) (sym t))
     ∙ fill-next f q k
-  where
-    and-true : (b : Bool) → b ≡ (b && true)
-    and-true true = refl
-    and-true false = refl
 
 pub fill-keep : (f : ℕ → Bool) (q m n : ℕ) → Filled f q m → f q ≡ false → n ≡ m → Filled f (q + 1) n
 fill-keep f q m n inv t e k =
-    ap (λ x. holds x k) e ∙ inv k ∙ or-false (ltb k q && f k) ∙ ap (λ b. (ltb k q && f k) || b) (and-false (eqb q k) ∙ ap (λ b. eqb q k && b) (sym t)) ∙ fill-next f q k
-  where
-    or-false : (b : Bool) → b ≡ (b || false)
-    or-false true = refl
-    or-false false = refl
-
-    and-false : (b : Bool) → false ≡ (b && false)
-    and-false true = refl
-    and-false false = refl
+    ap (λ x. holds x k) e ∙ inv k ∙ sym (or-false (ltb k q && f k)) ∙ ap (λ b. (ltb k q && f k) || b) (sym (and-false (eqb q k)) ∙ ap (λ b. eqb q k && b) (sym t)) ∙ fill-next f q k
 
 pub fill-all : (f : ℕ → Bool) (q m : ℕ) → q ≡ 8 → Filled f q m → (k : ℕ) → k < 8 → holds m k ≡ f k
 fill-all f q m e inv k h = inv k ∙ ap (λ t. t && f k) (lt-ltb k q (omega arith))

@@ -1,18 +1,17 @@
 -- The tests of a list tell what the relations say.
 use mathlib.Core.Path.{_≡_, refl, sym, ap, subst, _∙_}
-use mathlib.Core.Bool.{Bool, true, false, cond, _&&_, _||_}
+use mathlib.Core.Bool.{Bool, true, false, not, _&&_, _||_}
 use mathlib.Core.Logic.{_⊎_, inl, inr, ⊎-elim}
 use mathlib.Core.List.{List, [], _∷_, List·Memᴰ·head, List·Memᴰ·tail, List·Memᴰ·cases-cons, List·Memᴰ·not-nil}
-use Prim.Native.Nat.{ℕ, zero, suc, _+_, _<_}
+use Prim.Native.Nat.{ℕ, _+_, _<_}
 use native.Mathlib.Omega.{arith}
 use lib.Dec.{eqb}
 use lib.ListN.{length, getD, drop}
 use Rattle.std.specs.Orderings.{Decides}
 use Rattle.std.proofs.shelf.Lists.{at-drop-more}
-use Rattle.std.proofs.shelf.Tests.{and-left, and-right, cases-bool, cases-eq, false≢true}
-use Rattle.std.proofs.shelf.Ways.{decides-and, decides-eqb, decides-like, decides-or, same-from-decides}
+use Rattle.std.proofs.shelf.Tests.{and-left, and-right, not-true, not-from-false, cases-bool, false≢true}
+use Rattle.std.proofs.shelf.Ways.{decides-and, decides-below-and, decides-eqb, decides-like, decides-or, same-from-decides}
 use Rattle.ladders.specs.Ladders.{Lawful}
-use Rattle.ladders.specs.Rows.{countBelow}
 use Rattle.ladders.specs.Sets.{holds}
 use Rattle.rules.specs.declared.letter.Letter.{Letter}
 use Rattle.rules.specs.declared.letter.Letter.the-variants.{Guarded, Model}
@@ -23,7 +22,7 @@ use Rattle.rules.specs.declared.rule.Rule.{Rule}
 use Rattle.rules.specs.Rules.{Applies, Clear}
 use Rattle.rules.proofs.Posts.{clear-all}
 use Rattle.policies.specs.Lists.{Counts, Applied}
-use Rattle.policies.specs.ListMeaning.{sameEffect, counts, clears, applies, ruleReaches, reaches}
+use Rattle.policies.specs.ListMeaning.{sameEffect, counts, noneBelow, clears, applies, ruleReaches, reaches}
 
 same-tells : (x y : Effect) → Decides (sameEffect x y) (x ≡ y)
 same-tells Permit Permit = (λ _. refl, λ _. refl)
@@ -35,35 +34,21 @@ counts-tells : (letter : Letter) (t : Rule) → Decides (counts letter t) (Count
 counts-tells Guarded t = same-tells (t .effect) Permit
 counts-tells (Model m) t = decides-and (eqb (t .barred) 0) (eqb (t .«barred_posts») 0) (decides-eqb (t .barred) 0) (decides-eqb (t .«barred_posts») 0)
 
--- none below n passes where none is counted
-none-passes : (f : ℕ → Bool) (n : ℕ) → countBelow n f ≡ 0 → (k : ℕ) → k < n → f k ≡ false
-unfolding countBelow
-none-passes f zero e k h = absurd (omega arith)
-none-passes f (suc n) e k h =
-    ⊎-elim
-    (λ (t : f n ≡ true). let one : _≡_ {A = ℕ} (cond (f n) 1 0) 1 = ap (λ b. cond b 1 0) t in absurd (omega (arith, one, e)))
-    (λ (t : f n ≡ false).
-    ⊎-elim (λ (same : k ≡ n). rw same t) (λ (ne : k ≡ n → ⊥). none-passes f n (omega (arith, e)) k (omega arith)) (cases-eq k n))
-    (cases-bool (f n))
+-- a test that fails
+fails-tells : (b : Bool) → Decides (not b) (b ≡ false)
+fails-tells b = (not-true b, not-from-false b)
 
-none-counted : (f : ℕ → Bool) (n : ℕ) → ((k : ℕ) → f k ≡ false) → countBelow n f ≡ 0
-unfolding countBelow
-none-counted f zero h = refl
-none-counted f (suc n) h =
-    let none : _≡_ {A = ℕ} (cond (f n) 1 0) 0 = ap (λ b. cond b 1 0) (h n) in omega (arith, none, none-counted f n h)
+none-tells : (f : ℕ → Bool) (n : ℕ) → Decides (noneBelow n f) ((k : ℕ) → k < n → f k ≡ false)
+unfolding noneBelow
+none-tells f = decides-below-and (λ k. not (f k)) (λ k. f k ≡ false) (λ n. noneBelow n f) (λ k. fails-tells (f k)) refl (λ _. refl)
 
 module _ {posts : ℕ} {f : ℕ → ℕ → Bool} (laws : Lawful posts f) where
   clears-tells : (post barred : ℕ) → Decides (clears f post barred) (Clear f post barred)
-  clears-tells post barred = decides-like (clears f post barred) to from (decides-eqb (countBelow 8 passes) 0)
-    where
-      passes : ℕ → Bool
-      passes p = holds barred p && f post p
-
-      to : countBelow 8 passes ≡ 0 → Clear f post barred
-      to e = clear-all laws post barred 8 (omega arith) (λ p lt h. sym (ap (λ b. b && f post p) h) ∙ none-passes passes 8 e p lt)
-
-      from : Clear f post barred → countBelow 8 passes ≡ 0
-      from clear = none-counted passes 8 (λ p. ⊎-elim (λ h. and-right (holds barred p) (f post p) (clear p h)) (and-left (holds barred p) (f post p)) (cases-bool (holds barred p)))
+  clears-tells post barred =
+      decides-like (clears f post barred)
+      (λ none. clear-all laws post barred 8 (omega arith) (λ p lt h. sym (ap (λ b. b && f post p) h) ∙ none p lt))
+      (λ clear p _. ⊎-elim (λ h. and-right (holds barred p) (f post p) (clear p h)) (and-left (holds barred p) (f post p)) (cases-bool (holds barred p)))
+      (none-tells (λ p. holds barred p && f post p) 8)
 
   pub applies-tells : (t : Rule) (q : Request) → Decides (applies f t q) (Applies f t q)
   applies-tells t q =

@@ -1,10 +1,10 @@
 -- The computing form of what a list decides: each test tells whether the relation that its comment names holds.
-use mathlib.Core.Bool.{Bool, true, false, cond, _&&_, _||_}
+use mathlib.Core.Bool.{Bool, true, false, cond, not, _&&_, _||_}
 use mathlib.Core.List.{List, [], _∷_}
-use Prim.Native.Nat.{ℕ}
+use Prim.Native.Nat.{ℕ, zero, suc}
 use lib.Bits.{bitAnd}
 use lib.Dec.{eqb}
-use Rattle.ladders.specs.Rows.{rowPosts, rowsAtLeast, countBelow}
+use Rattle.ladders.specs.Rows.{rowPosts, rowsAtLeast}
 use Rattle.ladders.specs.Sets.{holds}
 use Rattle.rules.specs.declared.letter.Letter.{Letter}
 use Rattle.rules.specs.declared.letter.Letter.the-variants.{Guarded, Model}
@@ -32,9 +32,14 @@ abbrev pub counts : Letter → Rule → Bool
 counts Guarded t = sameEffect (t .effect) Permit
 counts (Model m) t = barsNothing t
 
+-- Tells whether no number below n passes.
+unfoldable pub noneBelow : ℕ → (ℕ → Bool) → Bool
+noneBelow zero f = true
+noneBelow (suc n) f = not (f n) && noneBelow n f
+
 -- Tells `Clear`, since no number from 8 on is a post.
 abbrev pub clears : (ℕ → ℕ → Bool) → ℕ → ℕ → Bool
-clears f post barred = eqb (countBelow 8 (λ p. holds barred p && f post p)) 0
+clears f post barred = noneBelow 8 (λ p. holds barred p && f post p)
 
 -- Tells `Applies`.
 abbrev pub applies : (ℕ → ℕ → Bool) → Rule → Request → Bool

@@ -1,7 +1,7 @@
 -- What a draft holds after the items of a line: by its bits it tells the items that name a thing again, and the rule that they mean.
 use mathlib.Core.Path.{_≡_, refl, sym, ap, ap₂, _∙_}
 use mathlib.Core.List.{List, [], _∷_, _++_, append-nil, append-assoc}
-use mathlib.Core.Bool.{Bool, true, false, not, _&&_, _||_}
+use mathlib.Core.Bool.{Bool, true, false, not, _&&_, _||_, and-comm, or-assoc, or-false, or-true}
 use mathlib.Core.Logic.{⊎-elim}
 use Prim.Native.Nat.{ℕ, _^_}
 use lib.Bits.{bitOr}
@@ -20,18 +20,6 @@ use Rattle.rulefile.specs.declared.grammar.Item.{Item}
 use Rattle.rulefile.specs.declared.draft.Draft.{Draft}
 use Rattle.rulefile.specs.Items.{any, sameName, isCondition, isPost, plainDigit, digit, again, item, Fits, Follow, Means}
 use Rattle.rulefile.specs.Steps.{fresh, repeatsFloor, repeats, withName, withItem, drafted, finished}
-
-or-assoc : (a b c : Bool) → ((a || b) || c) ≡ (a || (b || c))
-or-assoc true b c = refl
-or-assoc false b c = refl
-
-or-false : (a : Bool) → (a || false) ≡ a
-or-false true = refl
-or-false false = refl
-
-or-true : (a : Bool) → (a || true) ≡ true
-or-true true = refl
-or-true false = refl
 
 -- A thing that each item may add to the draft: it is there after the items where it was there before or an item adds it.
 module _ (has : Draft → Bool) (adds : Item → Bool) (step : (d : Draft) (i : Item) → has (withItem d i) ≡ (has d || adds i)) where
@@ -96,12 +84,6 @@ floor-step d true (Condition c) k h = sym (or-false (floorIs (d .floor) k))
 floor-step d false (Condition c) k h = sym (or-false (floorIs (d .floor) k))
 floor-step d true (Post q) k h = sym (or-false (floorIs (d .floor) k))
 floor-step d false (Post q) k h = ap (λ b. b || eqb q k) (sym (floor-none (d .floor) k (⊎-elim (λ e. e) (λ e. absurd (both-ways true e refl)) (and-cases (isSome (d .floor)) true h))))
-
-and-comm : (a b : Bool) → (a && b) ≡ (b && a)
-and-comm true true = refl
-and-comm true false = refl
-and-comm false true = refl
-and-comm false false = refl
 
 any-push : (f : Item → Bool) (is : List Item) (i : Item) → any f (is ++ (i ∷ [])) ≡ (any f is || f i)
 any-push f [] i = or-false (f i)

@@ -1,7 +1,7 @@
 -- A line by the grammar has no fault, and gives one rule.
 use mathlib.Core.Path.{_≡_, refl, sym, ap, ap₂, _∙_, subst}
 use mathlib.Core.List.{List, [], _∷_, _++_, append-nil, append-assoc}
-use mathlib.Core.Bool.{Bool, true, false, not, _&&_, _||_}
+use mathlib.Core.Bool.{Bool, true, false, not, _&&_, _||_, or-true}
 use mathlib.Core.Logic.{_⊎_, inl, inr, ⊎-elim}
 use Prim.Native.Nat.{ℕ, suc, _+_, _<_, _≤_}
 use native.Mathlib.Omega.{arith}
@@ -91,10 +91,6 @@ plain-some (i ∷ is) h =
     named true x e = absurd (both-ways false refl e)
     named false (Condition c) e = absurd (both-ways false refl e)
     named false (Post q) e = (q, eq-eqb q q refl)
-
-    or-true : (a : Bool) → (a || true) ≡ true
-    or-true true = refl
-    or-true false = refl
 
 floor-one : (is : List Item) (t u : Rule) → Means is t → Means is u → t .floor ≡ u .floor
 floor-one is t u m n =

@@ -1,7 +1,7 @@
 -- The items of a rule in the written order may follow one another, and mean the rule, where a line can give it.
 use mathlib.Core.Path.{_≡_, refl, sym, ap, ap₂, subst, _∙_}
 use mathlib.Core.List.{List, [], _∷_, _++_, append-nil, append-assoc}
-use mathlib.Core.Bool.{Bool, true, false, cond, not, _&&_, _||_}
+use mathlib.Core.Bool.{Bool, true, false, cond, not, _&&_, _||_, and-true, and-false, or-false, or-assoc}
 use mathlib.Core.Logic.{_⊎_, inl, inr, ⊎-elim}
 use Prim.Native.Nat.{ℕ, zero, suc, _<_, _≤_}
 use native.Mathlib.Omega.{arith}
@@ -19,14 +19,6 @@ use Rattle.rulefile.specs.declared.grammar.Name.the-variants.{Condition, Post}
 use Rattle.rulefile.specs.declared.grammar.Item.{Item}
 use Rattle.rulefile.specs.Items.{any, sameName, isCondition, isPost, plainDigit, item, Fits, Follow, Means}
 use Rattle.writing.specs.Written.{floorItem, postItem, conditionItem, rising, writtenItems}
-
-or-assoc : (a b c : Bool) → ((a || b) || c) ≡ (a || (b || c))
-or-assoc true b c = refl
-or-assoc false b c = refl
-
-or-false : (b : Bool) → (b || false) ≡ b
-or-false true = refl
-or-false false = refl
 
 pub any-append : (f : Item → Bool) (xs ys : List Item) → any f (xs ++ ys) ≡ (any f xs || any f ys)
 any-append f [] ys = refl
@@ -217,30 +209,20 @@ module _ (g : Grammar) (t : Rule) (few-posts : g .posts ≤ 8) (few : g .conditi
   below m true c h = ap (λ b. b && true) (sym (lt-ltb c m (h refl)))
   below m false c h = sym (and-right (ltb c m) false refl)
 
-  and-false : (b : Bool) (k : ℕ) → (b && false) ≡ false
-  and-false b k = and-right b false refl
-
-  not-and-false : (b : Bool) (k : ℕ) → (not b && false) ≡ false
-  not-and-false b k = and-right (not b) false refl
-
   -- a test of k, where k is c
   picked : (f : ℕ → Bool) (k c : ℕ) → (f k && eqb k c) ≡ (eqb k c && f c)
   picked f k c =
       ⊎-elim
-      (λ (e : k ≡ c). ap₂ (λ a b. f a && b) e (eq-eqb k c e) ∙ true-last (f c) ∙ ap (λ b. b && f c) (sym (eq-eqb k c e)))
+      (λ (e : k ≡ c). ap₂ (λ a b. f a && b) e (eq-eqb k c e) ∙ and-true (f c) ∙ ap (λ b. b && f c) (sym (eq-eqb k c e)))
       (λ ne. and-right (f k) (eqb k c) (ne-eqb k c ne) ∙ ap (λ b. b && f c) (sym (ne-eqb k c ne)))
       (cases-eq k c)
-    where
-      true-last : (b : Bool) → (b && true) ≡ b
-      true-last true = refl
-      true-last false = refl
 
   needed-means : (c : ℕ) → holds (t .needed) c ≡ any (λ i. not (i .barred) && isCondition c (i .name)) (writtenItems t)
   needed-means c =
       let f : Item → Bool = λ i. not (i .barred) && isCondition c (i .name) in
       below 9 (holds (t .needed) c) c (λ h. let l = s .needed c h in omega arith)
       ∙ sym
-      (by-conditions f not-and-false
+      (by-conditions f (λ b _. and-false (not b))
       ∙ any-one f (conditionItem t) c (holds (t .needed) c) 9
       (λ k.
       two-options f (holds (t .needed) k) (holds (t .barred) k) (item false (Condition k)) (item true (Condition k))
@@ -253,7 +235,7 @@ module _ (g : Grammar) (t : Rule) (few-posts : g .posts ≤ 8) (few : g .conditi
       let f : Item → Bool = λ i. i .barred && isCondition c (i .name) in
       below 9 (holds (t .barred) c) c (λ h. let l = s .barred c h .0 in omega arith)
       ∙ sym
-      (by-conditions f and-false
+      (by-conditions f (λ b _. and-false b)
       ∙ any-one f (conditionItem t) c (holds (t .barred) c) 9
       (λ k.
       two-options f (holds (t .needed) k) (holds (t .barred) k) (item false (Condition k)) (item true (Condition k))
@@ -270,7 +252,7 @@ module _ (g : Grammar) (t : Rule) (few-posts : g .posts ≤ 8) (few : g .conditi
       let f : Item → Bool = λ i. i .barred && isPost p (i .name) in
       below 8 (holds (t .«barred_posts») p) p (λ h. let l = s .posts p h .0 in omega arith)
       ∙ sym
-      (by-posts f and-false
+      (by-posts f (λ b _. and-false b)
       ∙ ap (λ b. b || any f (rising (postItem t) 8)) (unless-option f (eqb (t .floor) 0) (item false (Post (t .floor))) ∙ and-right (not (eqb (t .floor) 0)) false refl)
       ∙ any-one f (postItem t) p (holds (t .«barred_posts») p) 8
       (λ k. one-option f (holds (t .«barred_posts») k) (item true (Post k)) ∙ picked (holds (t .«barred_posts»)) k p))
@@ -286,12 +268,12 @@ module _ (g : Grammar) (t : Rule) (few-posts : g .posts ≤ 8) (few : g .conditi
   floor-means : (p : ℕ) → any (λ i. not (i .barred) && isPost p (i .name)) (writtenItems t) ≡ true → t .floor ≡ p
   floor-means p h =
       eqb-true (t .floor) p
-      (and-parts (not (eqb (t .floor) 0)) (eqb (t .floor) p) (sym (floor-part (λ i. not (i .barred) && isPost p (i .name)) not-and-false (λ q. refl)) ∙ h) .1)
+      (and-parts (not (eqb (t .floor) 0)) (eqb (t .floor) p) (sym (floor-part (λ i. not (i .barred) && isPost p (i .name)) (λ b _. and-false (not b)) (λ q. refl)) ∙ h) .1)
 
   ground-means : any plainDigit (writtenItems t) ≡ false → t .floor ≡ 0
   ground-means h =
       ⊎-elim (λ (e : eqb (t .floor) 0 ≡ true). eqb-true (t .floor) 0 e)
-      (λ (e : eqb (t .floor) 0 ≡ false). absurd (both-ways (any plainDigit (writtenItems t)) h (floor-part plainDigit not-and-false (λ q. refl) ∙ ap (λ b. not b && true) e)))
+      (λ (e : eqb (t .floor) 0 ≡ false). absurd (both-ways (any plainDigit (writtenItems t)) h (floor-part plainDigit (λ b _. and-false (not b)) (λ q. refl) ∙ ap (λ b. not b && true) e)))
       (cases-bool (eqb (t .floor) 0))
 
   pub written-means : Means (writtenItems t) t
