@@ -29,9 +29,9 @@ fn byte_for(decision: Option<Effect>) -> u8
 
 // Writes what a policy decides, a byte for each request.
 pub fn chart<P: Policy>(policy: &P, total: usize, work: &mut [u8])
-    requires all { total ≡ (meaning policy.now).requests }
+    requires all { total ≡ (P.meaning policy.now).requests }
     requires room { total ≤ length work.old }
-    ensures { work.new ≡ filled (chart_of (meaning policy.now) total) work.old }
+    ensures { work.new ≡ filled (chart_of (P.meaning policy.now) total) work.old }
 {
     for r in 0..total {
         work[r] = byte_for(policy.decide(r));

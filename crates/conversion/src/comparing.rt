@@ -10,7 +10,7 @@ use rules::Request;
 impl Order {
     // The requests of a ladder and so many conditions; none with more than nine conditions.
     pub fn of<L: Ladder>(ladder: &L, conditions: u8) -> Option<Order>
-        ensures { MatchOption result (9 < conditions) (IsOrder (posts ladder.now) (at_least ladder.now) conditions) }
+        ensures { MatchOption result (9 < conditions) (IsOrder (L.posts ladder.now) (L.at_least ladder.now) conditions) }
     {
         if conditions > 9 {
             return None;

@@ -21,7 +21,7 @@ fn fitting<P: Policy, L: Ladder>(
     ladder: &L,
     conditions: u8,
 ) -> Result<Order, Unconverted>
-    ensures { Fitted (posts ladder.now) (at_least ladder.now) conditions (meaning policy.now) result }
+    ensures { Fitted (L.posts ladder.now) (L.at_least ladder.now) conditions (P.meaning policy.now) result }
 {
     match Order::of(ladder, conditions) {
         Some(order) => if order.total == policy.requests() {
@@ -66,7 +66,7 @@ pub fn convert<P: Policy, L: Ladder>(
     work: &mut [u8],
     slots: &mut [Rule],
 ) -> Result<(usize, usize), Unconverted>
-    ensures converts { Converts (posts ladder.now) (at_least ladder.now) conditions (meaning policy.now) model work.old slots.old result work.new slots.new }
+    ensures converts { Converts (L.posts ladder.now) (L.at_least ladder.now) conditions (P.meaning policy.now) model work.old slots.old result work.new slots.new }
     ensures worked { WorkedCases }
 {
     let order = fitting(policy, ladder, conditions)?;

@@ -1,4 +1,6 @@
 // A policy becomes a list of a model, or is shown to have none.
+#![tactic(auto)]
+
 mod beyond;
 mod chart;
 mod comparing;

@@ -17,8 +17,8 @@ pub struct LadderRows {
 impl LadderRows {
     // The rows of a ladder, which answer as that ladder does.
     pub fn of<L: Ladder>(ladder: &L) -> LadderRows
-        ensures posts { row_posts result.rows ≡ posts ladder.now }
-        ensures same { (p q : ℕ) → rows_at_least result.rows p q ≡ at_least ladder.now p q }
+        ensures posts { row_posts result.rows ≡ L.posts ladder.now }
+        ensures same { (p q : ℕ) → rows_at_least result.rows p q ≡ L.at_least ladder.now p q }
     {
         LadderRows { rows: rows(ladder) }
     }

@@ -1,4 +1,6 @@
 // Ladders: a few posts, and which of them is at least which.
+#![tactic(auto)]
+
 mod house;
 mod ladder;
 mod ladder_rows;

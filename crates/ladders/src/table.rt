@@ -7,7 +7,7 @@ use crate::ladder::Ladder;
 
 // The row of one post.
 fn row<L: Ladder>(ladder: &L, p: usize) -> u8
-    ensures { (q : ℕ) → q < 8 → holds result q ≡ at_least ladder.now p q }
+    ensures { (q : ℕ) → q < 8 → holds result q ≡ L.at_least ladder.now p q }
 {
     let mut row = 0u8;
     for q in 0..8 {
@@ -19,7 +19,7 @@ fn row<L: Ladder>(ladder: &L, p: usize) -> u8
 }
 
 pub fn rows<L: Ladder>(ladder: &L) -> [u8; 8]
-    ensures { IsRows (at_least ladder.now) result }
+    ensures { IsRows (L.at_least ladder.now) result }
 {
     let mut rows = [0u8; 8];
     for p in 0..8 {

@@ -28,8 +28,8 @@ pub record Stepped (file : Bor (List ℕ)) (read at : ℕ) (l : Line) (read' at'
   pub counted : read' ≡ read + 1
   pub onward : at < at'
   pub within : at' ≤ length file.now
-  pub block : l.bytes.ptr.0 ≡ file.ref_ptr.0
-  pub byte : l.bytes.ptr.1 ≡ file.ref_ptr.1 + at
+  pub block : l.bytes.ref_ptr.0 ≡ file.ref_ptr.0
+  pub byte : l.bytes.ref_ptr.1 ≡ file.ref_ptr.1 + at
 
 -- What the reader answers from the byte `at` with `read` lines read, and how it moves: at the end of the file it hands out nothing and stays, else it hands out the next line.
 abbrev pub NextLine : Bor (List ℕ) → ℕ → ℕ → Option Line → ℕ → ℕ → Type 0

@@ -1,5 +1,7 @@
 // The lines of a file of rules, in the caller's own bytes. A line ends at byte 10; the last one counts with or without
 // it, and an ending byte 10 starts no further line: an empty file has no line, and a file of one byte 10 has one, empty.
+#![tactic(auto)]
+
 ghost use Rattle.std.specs.Prelude.{◌≡◌, List, length};
 ghost use Rattle.lines.specs.Handed.{Handed, OneSplit};
 ghost use Rattle.lines.specs.Lines.{Span, Lines};

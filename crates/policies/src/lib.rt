@@ -1,4 +1,6 @@
 // Policies: each permits some of its requests and denies the rest.
+#![tactic(auto)]
+
 mod chart;
 mod contrary;
 mod policy;

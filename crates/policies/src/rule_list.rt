@@ -25,9 +25,9 @@ impl<'a> RuleList<'a> {
         ladder: &L,
         rules: &'a [Rule],
     ) -> RuleList<'a>
-        ensures meant { Meant (posts ladder.now) (at_least ladder.now) letter conditions rules.now (meaning_of result) }
-        ensures once { OneDecision (at_least ladder.now) letter rules.now }
-        ensures computed { meaning_of result ≡ list_meaning (posts ladder.now) (at_least ladder.now) letter conditions rules.now }
+        ensures meant { Meant (L.posts ladder.now) (L.at_least ladder.now) letter conditions rules.now (meaning_of result) }
+        ensures once { OneDecision (L.at_least ladder.now) letter rules.now }
+        ensures computed { meaning_of result ≡ list_meaning (L.posts ladder.now) (L.at_least ladder.now) letter conditions rules.now }
     {
         RuleList {
             letter,

@@ -1,4 +1,6 @@
 // What the program answers of a whole input.
+#![tactic(auto)]
+
 mod refusal;
 mod tidying;
 

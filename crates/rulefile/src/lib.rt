@@ -1,4 +1,6 @@
 // Rule files: the grammar of a rule list as text, and the reader that answers a list or the first fault.
+#![tactic(auto)]
+
 mod draft;
 mod faults;
 mod grammar;

@@ -31,9 +31,9 @@ fn read_rules(reader: &mut Reader, grammar: Grammar, slots: &mut [Rule]) -> Resu
 // stand in the first slots, in the order of their lines, and the other slots hold what they held. A file that is not by the grammar
 // is refused at its first faulty byte, and the rules of the lines before that one stand in the first slots.
 pub fn read<L: Ladder>(file: &[u8], ladder: &L, slots: &mut [Rule]) -> Result<Listing, FileFault>
-    ensures answer { Answers (posts ladder.now) file.now slots.old result slots.new }
-    ensures once { OneReading (posts ladder.now) file.now }
-    ensures lawful { EveryRule (posts ladder.now) }
+    ensures answer { Answers (L.posts ladder.now) file.now slots.old result slots.new }
+    ensures once { OneReading (L.posts ladder.now) file.now }
+    ensures lawful { EveryRule (L.posts ladder.now) }
 {
     let mut reader = Reader::new(file);
     let Some(line) = reader.next_line() else {

@@ -1,4 +1,6 @@
 // Tests of reading and writing rule files, and of what a whole input is answered. The crate has nothing else.
+#![tactic(auto)]
+
 #[cfg(test)]
 mod cuts;
 #[cfg(test)]

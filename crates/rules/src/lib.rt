@@ -1,4 +1,6 @@
 // Requests, and the rules that apply to them.
+#![tactic(auto)]
+
 mod letter;
 mod request;
 mod rule;

@@ -35,7 +35,7 @@ impl Request {
 
     // Whether this request is at or above another.
     pub fn at_or_above<L: Ladder>(&self, ladder: &L, other: Request) -> bool
-        ensures { Decides result (AtOrAbove (at_least ladder.now) self.now other) }
+        ensures { Decides result (AtOrAbove (L.at_least ladder.now) self.now other) }
     {
         self.set & other.set == other.set
             && ladder.at_least(self.post as usize, other.post as usize)

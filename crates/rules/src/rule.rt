@@ -24,7 +24,7 @@ pub struct Rule {
 impl Rule {
     // Whether the rule applies to a request.
     pub fn applies<L: Ladder>(&self, ladder: &L, request: Request) -> bool
-        ensures { Decides result (Applies (at_least ladder.now) self.now request) }
+        ensures { Decides result (Applies (L.at_least ladder.now) self.now request) }
     {
         request.set & self.needed == self.needed
             && request.set & self.barred == 0
@@ -34,7 +34,7 @@ impl Rule {
 
     // Whether a post is at least no barred post.
     fn clears<L: Ladder>(&self, ladder: &L, post: usize) -> bool
-        ensures { Decides result (Clear (at_least ladder.now) post self.now.barred_posts) }
+        ensures { Decides result (Clear (L.at_least ladder.now) post self.now.barred_posts) }
     {
         for p in 0..8 {
             if (self.barred_posts >> p) & 1 == 1 && ladder.at_least(post, p) {
@@ -46,7 +46,7 @@ impl Rule {
 
     // The floor of a rule that bars nothing: the request of its floor post and its needed set.
     pub fn floor_of<L: Ladder>(&self, ladder: &L, n: u8) -> Option<Request>
-        ensures { result ≡ floor_of (posts ladder.now) n self.now }
+        ensures { result ≡ floor_of (L.posts ladder.now) n self.now }
     {
         if self.barred != 0 || self.barred_posts != 0 {
             return None;

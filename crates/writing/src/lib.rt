@@ -1,4 +1,6 @@
 // Writing lists as text, and which lists have a text.
+#![tactic(auto)]
+
 mod line_text;
 mod list_text;
 mod order;

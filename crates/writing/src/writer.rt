@@ -18,7 +18,7 @@ pub fn write<L: Ladder>(
     rules: &[Rule],
     text: &mut [u8],
 ) -> Result<usize, Unwritten>
-    ensures { Writes (posts ladder.now) letter conditions rules.now text.old result text.new }
+    ensures { Writes (L.posts ladder.now) letter conditions rules.now text.old result text.new }
 {
     if conditions > 9 {
         return Err(Unwritten::NoLine(0));

@@ -1,4 +1,6 @@
 // Reads a rule file from standard input, and prints it as lists are written, or why it is refused.
+#![tactic(auto)]
+
 use report::{Refusal, tidy};
 use rules::{Effect, Rule};
 use std::io::{Read, Write};
