@@ -36,6 +36,6 @@ returns c =
     record {
       handed =
           hands_none c.args.file c.loop-found.reader.file c.args.k c.loop-found.reader.read c.loop-found.reader.at
-          (c.loop-found.invariant.0 ∙ c.new-reader.ensures.file) c.loop-found.invariant.1 c.in-default.ensures.next.0 c.loop-found.invariant.2;
+          (c.loop-found.invariant.0 ∙ c.new-reader.ensures.file) c.loop-found.invariant.1 c.in_default.ensures.next.0 c.loop-found.invariant.2;
       split = one_split c.args.file.now;
     }

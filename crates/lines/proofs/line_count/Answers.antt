@@ -22,4 +22,4 @@ loop-line-preserved c =
 pub returns : goal.returns
 returns c =
     counts c.args.file c.loop-line.reader.file c.loop-line.count c.loop-line.reader.read c.loop-line.reader.at
-    (c.loop-line.invariant.0 ∙ c.new-reader.ensures.file) c.loop-line.invariant.1 c.in-default.ensures.next.0 c.loop-line.invariant.2
+    (c.loop-line.invariant.0 ∙ c.new-reader.ensures.file) c.loop-line.invariant.1 c.in_default.ensures.next.0 c.loop-line.invariant.2

@@ -5,8 +5,8 @@ use Rattle.conversion.proofs.Raised.{raised-few, raised-no, raised-none, raised-
 use Rattle.conversion.proofs.listing.count.Goals as goal
 use Rattle.conversion.proofs.listing.count.Goals.{then-flags-r, else-flags-r}
 
-pub overflow-add-up : goal.overflow-add-up
-overflow-add-up c = omega (arith, raised-few c.args.flags.now c.loop-r.r, c.loop-r.invariant)
+pub overflow_add-up : goal.overflow_add-up
+overflow_add-up c = omega (arith, raised-few c.args.flags.now c.loop-r.r, c.loop-r.invariant)
 
 pub loop-r-init : goal.loop-r-init
 loop-r-init c = omega (arith, ap length (raised-none c.args.flags.now))

@@ -7,14 +7,14 @@ use Rattle.report.proofs.tidying.tidy.Goals as goal
 pub returns-then-input-gt-LONGEST : goal.returns-then-input-gt-LONGEST
 returns-then-input-gt-LONGEST c = record { answer = (omega arith, (refl, refl)); once = one-reading 8 c.args.input.now }
 
-pub returns-in-err-count : goal.returns-in-err-count
-returns-in-err-count c =
-    let p = err_from_is_err_and c.from-residual-in-err-count.result c.from-residual-in-err-count.ensures.1 in
+pub returns-in_err-count : goal.returns-in_err-count
+returns-in_err-count c =
+    let p = err_from_is_err_and c.from-residual-in_err-count.result c.from-residual-in_err-count.ensures.1 in
     rw (p.1, p.2)
     (record {
       answer =
-          tidied c.args.input.now c.args.slots.now c.read.new.slots c.args.text.now c.write.new.text (omega arith) c.in-ok-list.list c.in-ok-list.ensures.answer
-          (Err c.in-err-count.field-0.0) c.in-err-count.ensures;
+          tidied c.args.input.now c.args.slots.now c.read.new.slots c.args.text.now c.write.new.text (omega arith) c.in_ok-list.list c.in_ok-list.ensures.answer
+          (Err c.in_err-count.field-0.0) c.in_err-count.ensures;
       once = one-reading 8 c.args.input.now;
     })
 
@@ -22,7 +22,7 @@ pub returns : goal.returns
 returns c =
     record {
       answer =
-          tidied c.args.input.now c.args.slots.now c.read.new.slots c.args.text.now c.write.new.text (omega arith) c.in-ok-list.list c.in-ok-list.ensures.answer
-          (Ok c.in-ok-count.count) c.in-ok-count.ensures;
+          tidied c.args.input.now c.args.slots.now c.read.new.slots c.args.text.now c.write.new.text (omega arith) c.in_ok-list.list c.in_ok-list.ensures.answer
+          (Ok c.in_ok-count.count) c.in_ok-count.ensures;
       once = one-reading 8 c.args.input.now;
     }

@@ -3,16 +3,16 @@ use Rattle.std.proofs.lemmas.Result.{err_from_is_err_and}
 use Rattle.rulefile.specs.Steps.{end, bad, more, finished}
 use Rattle.rulefile.proofs.items.read_items.Goals as goal
 
-pub returns-in-err-item : goal.returns-in-err-item
-returns-in-err-item c =
+pub returns-in_err-item : goal.returns-in_err-item
+returns-in_err-item c =
     let p = err_from_is_err_and c.from-residual.result c.from-residual.ensures.1 in
     rw (p.1, p.2)
-    (c.loop-rest.invariant.0 (Err c.in-err-item.field-0.0) (bad (search rules) (sym c.in-err-item.ensures.value)))
+    (c.loop-rest.invariant.0 (Err c.in_err-item.field-0.0) (bad (search rules) (sym c.in_err-item.ensures.value)))
 
 pub loop-rest-preserved : goal.loop-rest-preserved
 loop-rest-preserved c = (
-  λ r h. c.loop-rest.invariant.0 r (more c.in-ok-item.item c.in-ok-item.more.now (sym c.in-ok-item.ensures.value) (rw c.with-item-draft.ensures at h)),
-  omega (arith, c.in-ok-item.ensures.known),
+  λ r h. c.loop-rest.invariant.0 r (more c.in_ok-item.item c.in_ok-item.more.now (sym c.in_ok-item.ensures.value) (rw c.with-item-draft.ensures at h)),
+  omega (arith, c.in_ok-item.ensures.known),
 )
 
 pub returns : goal.returns

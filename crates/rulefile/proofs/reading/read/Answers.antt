@@ -3,35 +3,35 @@ use Rattle.std.proofs.lemmas.Result.{err_from_is_err_and}
 use Rattle.rulefile.proofs.FileLaw.{no_line, headless, wrong_first, answered, one-reading, every-rule}
 use Rattle.rulefile.proofs.reading.read.Goals as goal
 
-pub returns-in-default : goal.returns-in-default
-returns-in-default g c =
+pub returns-in_default : goal.returns-in_default
+returns-in_default g c =
     let long = ap (λ f. length f.now) c.new-reader.ensures.file in
-    let end = c.in-default.ensures.next.0 in
+    let end = c.in_default.ensures.next.0 in
     record {
       answer = headless (g.L.Ladder.posts c.args.ladder.now) c.args.file.now c.args.slots.now (no_line c.args.file.now (omega arith));
       once = one-reading (g.L.Ladder.posts c.args.ladder.now) c.args.file.now;
       lawful = every-rule (g.L.Ladder.posts c.args.ladder.now);
     }
 
-pub returns-in-default-read-head : goal.returns-in-default-read-head
-returns-in-default-read-head g c =
+pub returns-in_default-read_head : goal.returns-in_default-read_head
+returns-in_default-read_head g c =
     record {
       answer =
           headless (g.L.Ladder.posts c.args.ladder.now) c.args.file.now c.args.slots.now
-          (wrong_first c.new-reader.ensures.file c.new-reader.ensures.read c.new-reader.ensures.at c.in-Some.ensures.next c.in-default-read-head.ensures);
+          (wrong_first c.new-reader.ensures.file c.new-reader.ensures.read c.new-reader.ensures.at c.in-Some.ensures.next c.in_default-read-head.ensures);
       once = one-reading (g.L.Ladder.posts c.args.ladder.now) c.args.file.now;
       lawful = every-rule (g.L.Ladder.posts c.args.ladder.now);
     }
 
-pub returns-in-err-rules : goal.returns-in-err-rules
-returns-in-err-rules g c =
+pub returns-in_err-rules : goal.returns-in_err-rules
+returns-in_err-rules g c =
     let p = err_from_is_err_and c.from-residual.result c.from-residual.ensures.1 in
     rw (p.1, p.2)
     (record {
       answer =
           answered c.new-reader.ensures.file c.new-reader.ensures.read c.new-reader.ensures.at c.in-Some.ensures.next
-          (g.L.Ladder.posts c.args.ladder.now) c.count.result c.args.slots.now c.read-rules.new.slots c.in-Some-read-head.letter c.in-Some-read-head.conditions c.next-line.new.self.file (Err c.in-err-rules.field-0.0)
-          c.in-Some-read-head.ensures c.count.ensures c.next-line.ensures.same c.in-err-rules.ensures;
+          (g.L.Ladder.posts c.args.ladder.now) c.count.result c.args.slots.now c.read-rules.new.slots c.in-Some-read-head.letter c.in-Some-read-head.conditions c.next-line.new.self.file (Err c.in_err-rules.field-0.0)
+          c.in-Some-read-head.ensures c.count.ensures c.next-line.ensures.same c.in_err-rules.ensures;
       once = one-reading (g.L.Ladder.posts c.args.ladder.now) c.args.file.now;
       lawful = every-rule (g.L.Ladder.posts c.args.ladder.now);
     })
@@ -41,8 +41,8 @@ returns g c =
     record {
       answer =
           answered c.new-reader.ensures.file c.new-reader.ensures.read c.new-reader.ensures.at c.in-Some.ensures.next
-          (g.L.Ladder.posts c.args.ladder.now) c.count.result c.args.slots.now c.read-rules.new.slots c.in-Some-read-head.letter c.in-Some-read-head.conditions c.next-line.new.self.file (Ok c.in-ok-rules.rules)
-          c.in-Some-read-head.ensures c.count.ensures c.next-line.ensures.same c.in-ok-rules.ensures;
+          (g.L.Ladder.posts c.args.ladder.now) c.count.result c.args.slots.now c.read-rules.new.slots c.in-Some-read-head.letter c.in-Some-read-head.conditions c.next-line.new.self.file (Ok c.in_ok-rules.rules)
+          c.in-Some-read-head.ensures c.count.ensures c.next-line.ensures.same c.in_ok-rules.ensures;
       once = one-reading (g.L.Ladder.posts c.args.ladder.now) c.args.file.now;
       lawful = every-rule (g.L.Ladder.posts c.args.ladder.now);
     }

@@ -9,17 +9,17 @@ use Rattle.rulefile.proofs.reading.read_rules.Goals as goal
 pub loop-line-init : goal.loop-line-init
 loop-line-init c = (refl, (omega arith, λ ls h. sofar-none c.args.reader.now.file.now h))
 
-pub returns-in-err-rule : goal.returns-in-err-rule
-returns-in-err-rule c =
+pub returns-in_err-rule : goal.returns-in_err-rule
+returns-in_err-rule c =
     let p = err_from_is_err_and c.from-residual.result c.from-residual.ensures.1 in
     rw (p.1, p.2)
     (λ ls h.
     sofar-stopped (ap (λ f. f.now) c.loop-line.invariant.0) (c.loop-line.invariant.1.1 ls h) c.in-Some.ensures.next
-    c.in-err-rule.field-0.0 (ltb c.loop-line.count (length c.loop-line.slots)) (ap (ltb c.loop-line.count) c.loop-line.auto.slots) c.in-err-rule.ensures)
+    c.in_err-rule.field-0.0 (ltb c.loop-line.count (length c.loop-line.slots)) (ap (ltb c.loop-line.count) c.loop-line.auto.slots) c.in_err-rule.ensures)
 
 pub loop-line-preserved-in-Some-2 : goal.loop-line-preserved-in-Some-2
 loop-line-preserved-in-Some-2 c =
-    let says = subst (λ o. LineSays c.args.grammar (ltb c.loop-line.count (length c.loop-line.slots)) c.in-Some.line.place c.in-Some.line.bytes.now (Ok o)) c.in-Some-2.is c.in-ok-rule.ensures in
+    let says = subst (λ o. LineSays c.args.grammar (ltb c.loop-line.count (length c.loop-line.slots)) c.in-Some.line.place c.in-Some.line.bytes.now (Ok o)) c.in-Some-2.is c.in_ok-rule.ensures in
     let room : c.loop-line.count < length c.loop-line.slots = ltb-true c.loop-line.count (length c.loop-line.slots) says.1.0 in
     let long = c.loop-line.auto.slots in (
       c.next-line.ensures.same ∙ c.loop-line.invariant.0,
@@ -37,11 +37,11 @@ loop-line-preserved c = (
     c.loop-line.invariant.1.0,
     λ ls h.
         sofar-silent (ap (λ f. f.now) c.loop-line.invariant.0) (c.loop-line.invariant.1.1 ls h) c.in-Some.ensures.next
-        (subst (λ o. LineSays c.args.grammar (ltb c.loop-line.count (length c.loop-line.slots)) c.in-Some.line.place c.in-Some.line.bytes.now (Ok o)) c.in-default-2.is c.in-ok-rule.ensures),
+        (subst (λ o. LineSays c.args.grammar (ltb c.loop-line.count (length c.loop-line.slots)) c.in-Some.line.place c.in-Some.line.bytes.now (Ok o)) c.in_default-2.is c.in_ok-rule.ensures),
   ),
 )
 
 pub returns : goal.returns
 returns c =
     λ ls h.
-    let long = ap (λ f. length f.now) c.loop-line.invariant.0 in let end = c.in-default.ensures.next.0 in sofar-all (c.loop-line.invariant.1.1 ls h) (omega arith)
+    let long = ap (λ f. length f.now) c.loop-line.invariant.0 in let end = c.in_default.ensures.next.0 in sofar-all (c.loop-line.invariant.1.1 ls h) (omega arith)

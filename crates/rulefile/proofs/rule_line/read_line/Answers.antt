@@ -16,28 +16,28 @@ use Rattle.rulefile.proofs.rule_line.read_line.Goals as goal
 marked-line : (g : Grammar) (room : Bool) (p : Place) (x : List ℕ) (r : Result (Option Rule) FileFault) → 0 < length x → LineSays g room p (get_or x 0 0 ∷ between 1 (length x) x) r → LineSays g room p x r
 marked-line g room p x r h = subst (λ xs. LineSays g room p xs r) (sym (first_rest x 0 h))
 
-pub returns-in-err-effect : goal.returns-in-err-effect
-returns-in-err-effect c =
+pub returns-in_err-effect : goal.returns-in_err-effect
+returns-in_err-effect c =
     let p = err_from_is_err_and c.from-residual.result c.from-residual.ensures.1 in
     rw (p.1, p.2)
-    (marked-line c.args.grammar c.args.room c.args.line.place c.args.line.bytes.now (Err (Line c.in-err-effect.field-0.0)) (omega (arith, ltb-false))
-    (wrong-mark c.args.grammar c.args.room c.args.line.place (get_or c.args.line.bytes.now 0 0) _ (ne_eqb (get_or c.args.line.bytes.now 0 0) 35 c.if-mark-eq-COMMENT.false) c.in-err-effect.field-0.0 (sym c.in-err-effect.ensures)))
+    (marked-line c.args.grammar c.args.room c.args.line.place c.args.line.bytes.now (Err (Line c.in_err-effect.field-0.0)) (omega (arith, ltb-false))
+    (wrong-mark c.args.grammar c.args.room c.args.line.place (get_or c.args.line.bytes.now 0 0) _ (ne_eqb (get_or c.args.line.bytes.now 0 0) 35 c.if-mark-eq-COMMENT.false) c.in_err-effect.field-0.0 (sym c.in_err-effect.ensures)))
 
 pub returns-then-not-room : goal.returns-then-not-room
 returns-then-not-room c =
     marked-line c.args.grammar c.args.room c.args.line.place c.args.line.bytes.now (Err (NoSlot c.args.line.place)) (omega (arith, ltb-false))
-    (slotless c.args.grammar c.args.room c.args.line.place (get_or c.args.line.bytes.now 0 0) _ (ne_eqb (get_or c.args.line.bytes.now 0 0) 35 c.if-mark-eq-COMMENT.false) c.in-ok-effect.effect (sym c.in-ok-effect.ensures) c.if-not-room.true)
+    (slotless c.args.grammar c.args.room c.args.line.place (get_or c.args.line.bytes.now 0 0) _ (ne_eqb (get_or c.args.line.bytes.now 0 0) 35 c.if-mark-eq-COMMENT.false) c.in_ok-effect.effect (sym c.in_ok-effect.ensures) c.if-not-room.true)
 
-pub returns-in-err-rule : goal.returns-in-err-rule
-returns-in-err-rule c =
-    let p = err_from_is_err_and c.from-residual-in-err-rule.result c.from-residual-in-err-rule.ensures.1 in
+pub returns-in_err-rule : goal.returns-in_err-rule
+returns-in_err-rule c =
+    let p = err_from_is_err_and c.from-residual-in_err-rule.result c.from-residual-in_err-rule.ensures.1 in
     rw (p.1, p.2)
-    (marked-line c.args.grammar c.args.room c.args.line.place c.args.line.bytes.now (Err (Line c.in-err-rule.field-0.0)) (omega (arith, ltb-false))
-    (itemed-line c.args.grammar c.args.room c.args.line.place (get_or c.args.line.bytes.now 0 0) _ (ne_eqb (get_or c.args.line.bytes.now 0 0) 35 c.if-mark-eq-COMMENT.false) c.in-ok-effect.effect (Err c.in-err-rule.field-0.0) (sym c.in-ok-effect.ensures) c.if-not-room.false
-    (rw (c.new.ensures, c.next-place.ensures) at c.in-err-rule.ensures)))
+    (marked-line c.args.grammar c.args.room c.args.line.place c.args.line.bytes.now (Err (Line c.in_err-rule.field-0.0)) (omega (arith, ltb-false))
+    (itemed-line c.args.grammar c.args.room c.args.line.place (get_or c.args.line.bytes.now 0 0) _ (ne_eqb (get_or c.args.line.bytes.now 0 0) 35 c.if-mark-eq-COMMENT.false) c.in_ok-effect.effect (Err c.in_err-rule.field-0.0) (sym c.in_ok-effect.ensures) c.if-not-room.false
+    (rw (c.new.ensures, c.next-place.ensures) at c.in_err-rule.ensures)))
 
 pub returns : goal.returns
 returns c =
-    marked-line c.args.grammar c.args.room c.args.line.place c.args.line.bytes.now (Ok (Some c.in-ok-rule.rule)) (omega (arith, ltb-false))
-    (itemed-line c.args.grammar c.args.room c.args.line.place (get_or c.args.line.bytes.now 0 0) _ (ne_eqb (get_or c.args.line.bytes.now 0 0) 35 c.if-mark-eq-COMMENT.false) c.in-ok-effect.effect (Ok c.in-ok-rule.rule) (sym c.in-ok-effect.ensures) c.if-not-room.false
-    (rw (c.new.ensures, c.next-place.ensures) at c.in-ok-rule.ensures))
+    marked-line c.args.grammar c.args.room c.args.line.place c.args.line.bytes.now (Ok (Some c.in_ok-rule.rule)) (omega (arith, ltb-false))
+    (itemed-line c.args.grammar c.args.room c.args.line.place (get_or c.args.line.bytes.now 0 0) _ (ne_eqb (get_or c.args.line.bytes.now 0 0) 35 c.if-mark-eq-COMMENT.false) c.in_ok-effect.effect (Ok c.in_ok-rule.rule) (sym c.in_ok-effect.ensures) c.if-not-room.false
+    (rw (c.new.ensures, c.next-place.ensures) at c.in_ok-rule.ensures))

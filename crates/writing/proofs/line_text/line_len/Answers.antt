@@ -5,7 +5,7 @@ use Rattle.writing.specs.Written.{rising}
 use Rattle.writing.specs.Steps.{placed_item}
 use Rattle.writing.proofs.Places.{text-start, text-none, length_some, line-placed}
 use Rattle.writing.proofs.line_text.line_len.Goals as goal
-use Rattle.writing.proofs.line_text.line_len.Goals.{in-Some, in-default}
+use Rattle.writing.proofs.line_text.line_len.Goals.{in-Some, in_default}
 
 pub loop-place-init : goal.loop-place-init
 loop-place-init c = let e = ap length (text-start (placed_item c.args.rule.now)) in (omega arith, omega arith)
@@ -17,8 +17,8 @@ loop-place-preserved c =
       | in-Some w ↦
           let e = length_some (placed_item c.args.rule.now) c.loop-place.place w.in-Some.item w.in-Some.ensures in
           let l = w.item-len-len.ensures in (omega (arith, w.len-is), omega (arith, w.len-is))
-      | in-default w ↦
-          let e = ap length (text-none (placed_item c.args.rule.now) c.loop-place.place w.in-default.ensures) in (omega (arith, w.len-is), omega (arith, w.len-is))
+      | in_default w ↦
+          let e = ap length (text-none (placed_item c.args.rule.now) c.loop-place.place w.in_default.ensures) in (omega (arith, w.len-is), omega (arith, w.len-is))
     ]
 
 pub returns : goal.returns

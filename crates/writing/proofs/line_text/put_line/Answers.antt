@@ -6,10 +6,10 @@ use Rattle.writing.specs.Steps.{placed_item, over}
 use Rattle.writing.proofs.Overs.{over_none, put-more, next_more}
 use Rattle.writing.proofs.Places.{text-start, text-some, text-none, length_some, line-placed, placed-known, room-left}
 use Rattle.writing.proofs.line_text.put_line.Goals as goal
-use Rattle.writing.proofs.line_text.put_line.Goals.{in-Some, in-default}
+use Rattle.writing.proofs.line_text.put_line.Goals.{in-Some, in_default}
 
-pub put-item-next-requires : goal.put-item-next-requires
-put-item-next-requires c =
+pub put_item-next-requires : goal.put_item-next-requires
+put_item-next-requires c =
     let room = room-left c.args.rule.now c.args.at (c.loop-place.place + 1) (length c.args.text.now) (omega arith) c.requires.1 in
     let e = length_some (placed_item c.args.rule.now) c.loop-place.place c.in-Some.item c.in-Some.ensures in
     let n = c.put-next.ensures.next in
@@ -37,8 +37,8 @@ loop-place-preserved c =
             next_more c.put-next.new.text c.put-next.result xs fits (spelled w.in-Some.item) c.loop-place.invariant.1 (w.next-is ∙ w.put-item-next.ensures.next)
                 ∙ ap (λ ys. c.put-next.result + length ys) (sym e),
           )
-      | in-default w ↦
-          let e = text-none f k w.in-default.ensures in (
+      | in_default w ↦
+          let e = text-none f k w.in_default.ensures in (
             w.text-is ∙ c.loop-place.invariant.0 ∙ ap (over c.put-next.new.text c.put-next.result) (sym e),
             w.next-is ∙ c.loop-place.invariant.1 ∙ ap (λ ys. c.put-next.result + length ys) (sym e),
           )

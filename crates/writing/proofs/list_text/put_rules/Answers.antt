@@ -9,8 +9,8 @@ use Rattle.writing.proofs.list_text.put_rules.Goals as goal
 pub loop-rule-init : goal.loop-rule-init
 loop-rule-init c = (sym (over_none c.args.text.now c.args.at), omega arith)
 
-pub put-line-next-requires : goal.put-line-next-requires
-put-line-next-requires c =
+pub put_line-next-requires : goal.put_line-next-requires
+put_line-next-requires c =
     let more = length-lined-more c.args.rules.now c.loop-rule.rule-index blank c.loop-rule-test.true in
     let within = lined-within c.args.rules.now (c.loop-rule.rule-index + 1) in
     let i = c.loop-rule.invariant.1 in

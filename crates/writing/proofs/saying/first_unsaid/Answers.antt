@@ -8,8 +8,8 @@ use Rattle.writing.specs.Writes.{Sayable}
 use Rattle.writing.proofs.Sayings.{decides-sayable}
 use Rattle.writing.proofs.saying.first_unsaid.Goals as goal
 
-pub returns-then-not-is-sayable : goal.returns-then-not-is-sayable
-returns-then-not-is-sayable c = (
+pub returns-then-not-is_sayable : goal.returns-then-not-is_sayable
+returns-then-not-is_sayable c = (
   c.loop-slot.invariant,
   (
     _,

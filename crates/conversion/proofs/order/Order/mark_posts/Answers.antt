@@ -1,7 +1,7 @@
 use Rattle.std.proofs.Common.{sym, inl, inr, arith}
 use Rattle.conversion.proofs.Passes.{posted-all, posted-more, posted-skip}
 use Rattle.conversion.proofs.order.Order.mark_posts.Goals as goal
-use Rattle.conversion.proofs.order.Order.mark_posts.Goals.{then-upper-lower+then-at-least, else-upper-lower, else-upper-lower-via-then-upper-lower+else-at-least, else-upper-lower-via-else-upper-lower}
+use Rattle.conversion.proofs.order.Order.mark_posts.Goals.{then-upper-lower+then-at_least, else-upper-lower, else-upper-lower-via-then-upper-lower+else-at_least, else-upper-lower-via-else-upper-lower}
 
 pub loop-pair-init : goal.loop-pair-init
 loop-pair-init c =
@@ -10,13 +10,13 @@ loop-pair-init c =
 pub loop-pair-preserved : goal.loop-pair-preserved
 loop-pair-preserved c =
     elim c.if-upper-lower.branch [
-      | then-upper-lower+then-at-least w ↦
-          rw w.marks-is (posted-more c.args.self.now c.loop-pair.invariant (sym w.if-at-least.ensures, w.if-upper-lower.true) w.pass.ensures)
+      | then-upper-lower+then-at_least w ↦
+          rw w.marks-is (posted-more c.args.self.now c.loop-pair.invariant (sym w.if-at_least.ensures, w.if-upper-lower.true) w.pass.ensures)
       | else-upper-lower w ↦
           rw w.marks-is
           (posted-skip c.args.self.now c.loop-pair.invariant
           (elim w.else-upper-lower.branch [
-            | else-upper-lower-via-then-upper-lower+else-at-least v ↦ inr (sym v.if-at-least.ensures)
+            | else-upper-lower-via-then-upper-lower+else-at_least v ↦ inr (sym v.if-at_least.ensures)
             | else-upper-lower-via-else-upper-lower v ↦ inl v.if-upper-lower.false
           ]))
     ]

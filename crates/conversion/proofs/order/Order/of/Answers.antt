@@ -6,8 +6,8 @@ use Rattle.rules.specs.Requests.{request_total}
 use Rattle.conversion.proofs.Totals.{at_most}
 use Rattle.conversion.proofs.order.Order.of.Goals as goal
 
-pub invariant-of-result : goal.invariant-of-result
-invariant-of-result g c =
+pub invariant_of-result : goal.invariant_of-result
+invariant_of-result g c =
     let rows = c.of-rows.result.rows in
     let n = c.args.conditions in
     let laws = held c.of-rows.result.lawful in

@@ -8,7 +8,7 @@ use Rattle.conversion.proofs.order.Order.put_rules.Goals as goal
 use Rattle.conversion.proofs.order.Order.put_rules.Goals.{then-floors-r, else-floors-r}
 
 -- there is a slot left
-free : (c : goal.After-floor-rule) → c.loop-r.next < length c.loop-r.slots
+free : (c : goal.After-floor_rule) → c.loop-r.next < length c.loop-r.slots
 free c =
     let rule = floor_rule c.args.self.now.conditions c.args.effect in
     let room = put-room rule c.args.floors.now c.args.at c.args.slots.now c.args.self.now.total c.requires c.loop-r.r c.loop-r-test.true c.if-floors-r.true in
@@ -20,14 +20,14 @@ loop-r-init c = (
   put-none (floor_rule c.args.self.now.conditions c.args.effect) c.args.floors.now c.args.at c.args.slots.now (omega (arith, c.requires)),
 )
 
-pub offset-bounds-slots-next : goal.offset-bounds-slots-next
-offset-bounds-slots-next c = let h = free c in search rules
+pub offset_bounds-slots-next : goal.offset_bounds-slots-next
+offset_bounds-slots-next c = let h = free c in search rules
 
 pub bounds-slots-next : goal.bounds-slots-next
 bounds-slots-next c = free c
 
-pub overflow-add-next : goal.overflow-add-next
-overflow-add-next c = let h = free c in search rules
+pub overflow_add-next : goal.overflow_add-next
+overflow_add-next c = let h = free c in search rules
 
 pub loop-r-preserved : goal.loop-r-preserved
 loop-r-preserved c =

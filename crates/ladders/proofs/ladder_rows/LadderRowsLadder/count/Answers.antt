@@ -11,11 +11,11 @@ pub loop-p-preserved : goal.loop-p-preserved
 loop-p-preserved c =
     elim c.if-at_least.branch [
       | then-at_least w ↦ (
-        omega (arith, w.posts-is, c.loop-p.invariant.0, count-more (λ k. rows_at_least c.args.self.now.rows k k) c.loop-p.p true w.if-at-least.ensures),
+        omega (arith, w.posts-is, c.loop-p.invariant.0, count-more (λ k. rows_at_least c.args.self.now.rows k k) c.loop-p.p true w.if-at_least.ensures),
         omega (arith, w.posts-is, c.loop-p.invariant.1),
       )
       | else-at_least w ↦ (
-        omega (arith, w.posts-is, c.loop-p.invariant.0, count-more (λ k. rows_at_least c.args.self.now.rows k k) c.loop-p.p false w.if-at-least.ensures),
+        omega (arith, w.posts-is, c.loop-p.invariant.0, count-more (λ k. rows_at_least c.args.self.now.rows k k) c.loop-p.p false w.if-at_least.ensures),
         omega (arith, w.posts-is, c.loop-p.invariant.1),
       )
     ]

@@ -5,8 +5,8 @@ use Rattle.policies.specs.ListMeaning.{reaches}
 use Rattle.policies.proofs.Tells.{onward}
 use Rattle.policies.proofs.rule_list.RuleList.reached.Goals as goal
 
-pub returns-then-rule-reaches : goal.returns-then-rule-reaches
-returns-then-rule-reaches c =
+pub returns-then-rule_reaches : goal.returns-then-rule_reaches
+returns-then-rule_reaches c =
     onward (rows_at_least c.args.self.now.ladder.rows) c.args.self.now.letter c.args.effect c.args.request c.args.self.now.rules.now c.loop-rule.rule-index _ true c.loop-rule-test.true c.if-rule-reaches.ensures c.loop-rule.invariant
 
 pub loop-rule-preserved : goal.loop-rule-preserved
