@@ -22,4 +22,4 @@ loop-r-preserved g c =
     let p = g.P.Policy.meaning c.args.policy.now in
     let r = c.loop-r.r in
     let some = c.decide.ensures ∙ cond-true (ltb r p.requests) (Some (p.effect r)) None (lt-ltb r p.requests (omega arith)) in
-    ap₂ (λ xs b. set xs r b) c.loop-r.invariant (c.byte-for.ensures ∙ ap byte_for some) ∙ charted-more p r c.args.work.now (omega arith)
+    ap₂ (λ xs b. set xs r b) c.loop-r.invariant (c.byte_for.ensures ∙ ap byte_for some) ∙ charted-more p r c.args.work.now (omega arith)

@@ -11,7 +11,7 @@ returns-in_err-item c =
 
 pub loop-rest-preserved : goal.loop-rest-preserved
 loop-rest-preserved c = (
-  λ r h. c.loop-rest.invariant.0 r (more c.in_ok-item.item c.in_ok-item.more.now (sym c.in_ok-item.ensures.value) (rw c.with-item-draft.ensures at h)),
+  λ r h. c.loop-rest.invariant.0 r (more c.in_ok-item.item c.in_ok-item.more.now (sym c.in_ok-item.ensures.value) (rw c.with_item-draft.ensures at h)),
   omega (arith, c.in_ok-item.ensures.known),
 )
 

@@ -6,5 +6,5 @@ use Rattle.rulefile.proofs.items.read_name.Goals as goal
 pub returns-in_ok-known_name : goal.returns-in_ok-known_name
 returns-in_ok-known_name c =
     let e = ap (λ xs. name_read c.args.grammar xs c.args.place) (first_rest c.args.bytes.now 0 (omega (arith, ltb-false))) in
-    let was = c.in_ok-known-name.was in
+    let was = c.in_ok-known_name.was in
     grind arith

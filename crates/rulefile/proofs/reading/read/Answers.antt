@@ -18,7 +18,7 @@ returns-in_default-read_head g c =
     record {
       answer =
           headless (g.L.Ladder.posts c.args.ladder.now) c.args.file.now c.args.slots.now
-          (wrong_first c.new-reader.ensures.file c.new-reader.ensures.read c.new-reader.ensures.at c.in-Some.ensures.next c.in_default-read-head.ensures);
+          (wrong_first c.new-reader.ensures.file c.new-reader.ensures.read c.new-reader.ensures.at c.in-Some.ensures.next c.in_default-read_head.ensures);
       once = one-reading (g.L.Ladder.posts c.args.ladder.now) c.args.file.now;
       lawful = every-rule (g.L.Ladder.posts c.args.ladder.now);
     }
@@ -30,8 +30,8 @@ returns-in_err-rules g c =
     (record {
       answer =
           answered c.new-reader.ensures.file c.new-reader.ensures.read c.new-reader.ensures.at c.in-Some.ensures.next
-          (g.L.Ladder.posts c.args.ladder.now) c.count.result c.args.slots.now c.read-rules.new.slots c.in-Some-read-head.letter c.in-Some-read-head.conditions c.next-line.new.self.file (Err c.in_err-rules.field-0.0)
-          c.in-Some-read-head.ensures c.count.ensures c.next-line.ensures.same c.in_err-rules.ensures;
+          (g.L.Ladder.posts c.args.ladder.now) c.count.result c.args.slots.now c.read_rules.new.slots c.in-Some-read_head.letter c.in-Some-read_head.conditions c.next_line.new.self.file (Err c.in_err-rules.field-0.0)
+          c.in-Some-read_head.ensures c.count.ensures c.next_line.ensures.same c.in_err-rules.ensures;
       once = one-reading (g.L.Ladder.posts c.args.ladder.now) c.args.file.now;
       lawful = every-rule (g.L.Ladder.posts c.args.ladder.now);
     })
@@ -41,8 +41,8 @@ returns g c =
     record {
       answer =
           answered c.new-reader.ensures.file c.new-reader.ensures.read c.new-reader.ensures.at c.in-Some.ensures.next
-          (g.L.Ladder.posts c.args.ladder.now) c.count.result c.args.slots.now c.read-rules.new.slots c.in-Some-read-head.letter c.in-Some-read-head.conditions c.next-line.new.self.file (Ok c.in_ok-rules.rules)
-          c.in-Some-read-head.ensures c.count.ensures c.next-line.ensures.same c.in_ok-rules.ensures;
+          (g.L.Ladder.posts c.args.ladder.now) c.count.result c.args.slots.now c.read_rules.new.slots c.in-Some-read_head.letter c.in-Some-read_head.conditions c.next_line.new.self.file (Ok c.in_ok-rules.rules)
+          c.in-Some-read_head.ensures c.count.ensures c.next_line.ensures.same c.in_ok-rules.ensures;
       once = one-reading (g.L.Ladder.posts c.args.ladder.now) c.args.file.now;
       lawful = every-rule (g.L.Ladder.posts c.args.ladder.now);
     }

@@ -22,7 +22,7 @@ loop-line-preserved-in-Some-2 c =
     let says = subst (λ o. LineSays c.args.grammar (ltb c.loop-line.count (length c.loop-line.slots)) c.in-Some.line.place c.in-Some.line.bytes.now (Ok o)) c.in-Some-2.is c.in_ok-rule.ensures in
     let room : c.loop-line.count < length c.loop-line.slots = ltb-true c.loop-line.count (length c.loop-line.slots) says.1.0 in
     let long = c.loop-line.auto.slots in (
-      c.next-line.ensures.same ∙ c.loop-line.invariant.0,
+      c.next_line.ensures.same ∙ c.loop-line.invariant.0,
       (
         simp length-set (omega arith),
         λ ls h.
@@ -32,7 +32,7 @@ loop-line-preserved-in-Some-2 c =
 
 pub loop-line-preserved : goal.loop-line-preserved
 loop-line-preserved c = (
-  c.next-line.ensures.same ∙ c.loop-line.invariant.0,
+  c.next_line.ensures.same ∙ c.loop-line.invariant.0,
   (
     c.loop-line.invariant.1.0,
     λ ls h.

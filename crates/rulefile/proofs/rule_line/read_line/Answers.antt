@@ -34,10 +34,10 @@ returns-in_err-rule c =
     rw (p.1, p.2)
     (marked-line c.args.grammar c.args.room c.args.line.place c.args.line.bytes.now (Err (Line c.in_err-rule.field-0.0)) (omega (arith, ltb-false))
     (itemed-line c.args.grammar c.args.room c.args.line.place (get_or c.args.line.bytes.now 0 0) _ (ne_eqb (get_or c.args.line.bytes.now 0 0) 35 c.if-mark-eq-COMMENT.false) c.in_ok-effect.effect (Err c.in_err-rule.field-0.0) (sym c.in_ok-effect.ensures) c.if-not-room.false
-    (rw (c.new.ensures, c.next-place.ensures) at c.in_err-rule.ensures)))
+    (rw (c.new.ensures, c.next_place.ensures) at c.in_err-rule.ensures)))
 
 pub returns : goal.returns
 returns c =
     marked-line c.args.grammar c.args.room c.args.line.place c.args.line.bytes.now (Ok (Some c.in_ok-rule.rule)) (omega (arith, ltb-false))
     (itemed-line c.args.grammar c.args.room c.args.line.place (get_or c.args.line.bytes.now 0 0) _ (ne_eqb (get_or c.args.line.bytes.now 0 0) 35 c.if-mark-eq-COMMENT.false) c.in_ok-effect.effect (Ok c.in_ok-rule.rule) (sym c.in_ok-effect.ensures) c.if-not-room.false
-    (rw (c.new.ensures, c.next-place.ensures) at c.in_ok-rule.ensures))
+    (rw (c.new.ensures, c.next_place.ensures) at c.in_ok-rule.ensures))

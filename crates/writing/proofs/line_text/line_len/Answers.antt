@@ -13,10 +13,10 @@ loop-place-init c = let e = ap length (text-start (placed_item c.args.rule.now))
 pub loop-place-preserved : goal.loop-place-preserved
 loop-place-preserved c =
     let inv = c.loop-place.invariant in
-    elim c.match-item-at.branch [
+    elim c.match-item_at.branch [
       | in-Some w ↦
           let e = length_some (placed_item c.args.rule.now) c.loop-place.place w.in-Some.item w.in-Some.ensures in
-          let l = w.item-len-len.ensures in (omega (arith, w.len-is), omega (arith, w.len-is))
+          let l = w.item_len-len.ensures in (omega (arith, w.len-is), omega (arith, w.len-is))
       | in_default w ↦
           let e = ap length (text-none (placed_item c.args.rule.now) c.loop-place.place w.in_default.ensures) in (omega (arith, w.len-is), omega (arith, w.len-is))
     ]

@@ -29,12 +29,12 @@ loop-place-preserved c =
     let room = room-left c.args.rule.now c.args.at k (length c.args.text.now) (omega arith) c.requires.1 in
     let n = c.put-next.ensures.next in
     let fits : c.put-next.result + length xs ≤ length c.put-next.new.text = omega arith in
-    elim c.match-item-at.branch [
+    elim c.match-item_at.branch [
       | in-Some w ↦
           let e = text-some f k w.in-Some.item w.in-Some.ensures in (
-            put-more c.put-next.new.text c.put-next.result xs fits (spelled w.in-Some.item) c.loop-place.invariant.0 c.loop-place.invariant.1 (w.text-is ∙ w.put-item-next.ensures.text)
+            put-more c.put-next.new.text c.put-next.result xs fits (spelled w.in-Some.item) c.loop-place.invariant.0 c.loop-place.invariant.1 (w.text-is ∙ w.put_item-next.ensures.text)
                 ∙ ap (over c.put-next.new.text c.put-next.result) (sym e),
-            next_more c.put-next.new.text c.put-next.result xs fits (spelled w.in-Some.item) c.loop-place.invariant.1 (w.next-is ∙ w.put-item-next.ensures.next)
+            next_more c.put-next.new.text c.put-next.result xs fits (spelled w.in-Some.item) c.loop-place.invariant.1 (w.next-is ∙ w.put_item-next.ensures.next)
                 ∙ ap (λ ys. c.put-next.result + length ys) (sym e),
           )
       | in_default w ↦
@@ -59,11 +59,11 @@ returns c =
     let room = room-left t c.args.at k (length c.args.text.now) (omega arith) c.requires.1 in
     let n = c.put-next.ensures.next in
     let fits : c.put-next.result + length xs ≤ length c.put-next.new.text = omega arith in
-    let line : c.mark-of.result ∷ xs ≡ line_of t = ap (λ m. m ∷ xs) c.mark-of.ensures ∙ ap (λ j. mark_of t.effect ∷ flat_map spelled (rising (placed_item t) j)) last ∙ sym (line-placed t) in
+    let line : c.mark_of.result ∷ xs ≡ line_of t = ap (λ m. m ∷ xs) c.mark_of.ensures ∙ ap (λ j. mark_of t.effect ∷ flat_map spelled (rising (placed_item t) j)) last ∙ sym (line-placed t) in
     let items = put-more c.put-next.new.text c.put-next.result xs fits (10 ∷ []) c.loop-place.invariant.0 c.loop-place.invariant.1 c.put.ensures.text in
     record {
       text =
-          put-more c.args.text.now c.args.at (c.mark-of.result ∷ []) (omega arith) (xs ++ (10 ∷ [])) c.put-next.ensures.text n items
+          put-more c.args.text.now c.args.at (c.mark_of.result ∷ []) (omega arith) (xs ++ (10 ∷ [])) c.put-next.ensures.text n items
           ∙ ap (λ ys. over c.args.text.now c.args.at (ys ++ (10 ∷ []))) line;
       next = let l = ap length line in let e = c.put.ensures.next in let i = c.loop-place.invariant.1 in omega arith;
     }

@@ -8,7 +8,7 @@ pub returns : goal.returns
 returns c =
     record {
       text =
-          put-more c.args.text.now 0 (head_line c.args.letter c.args.conditions ++ (10 ∷ [])) (omega arith) (lined (map line_of c.args.rules.now)) c.put-head-head.ensures.text c.put-head-head.ensures.next c.put-rules.ensures.text
+          put-more c.args.text.now 0 (head_line c.args.letter c.args.conditions ++ (10 ∷ [])) (omega arith) (lined (map line_of c.args.rules.now)) c.put_head-head.ensures.text c.put_head-head.ensures.next c.put_rules.ensures.text
           ∙ over-front c.args.text.now (written c.args.letter c.args.conditions c.args.rules.now);
-      count = let h = c.put-head-head.ensures.next in let e = c.put-rules.ensures.next in omega arith;
+      count = let h = c.put_head-head.ensures.next in let e = c.put_rules.ensures.next in omega arith;
     }

@@ -25,9 +25,9 @@ loop-rule-preserved c =
     let fits : c.args.at + length xs ≤ length c.args.text.now = omega arith in
     let more = lined-more c.args.rules.now c.loop-rule.rule-index blank c.loop-rule-test.true in
     let long = length-lined-more c.args.rules.now c.loop-rule.rule-index blank c.loop-rule-test.true in
-    let e = c.put-line-next.ensures.next in
+    let e = c.put_line-next.ensures.next in
     let i = c.loop-rule.invariant.1 in (
-      put-more c.args.text.now c.args.at xs fits _ c.loop-rule.invariant.0 i c.put-line-next.ensures.text ∙ ap (over c.args.text.now c.args.at) (sym more),
+      put-more c.args.text.now c.args.at xs fits _ c.loop-rule.invariant.0 i c.put_line-next.ensures.text ∙ ap (over c.args.text.now c.args.at) (sym more),
       omega arith,
     )
 

@@ -15,7 +15,7 @@ returns-then-not-is_sayable c = (
     _,
     (
       slice_get-get_or c.args.rules.now c.loop-slot.slot _ c.loop-slot-test.true,
-      not_from_Decides _ (decides-sayable c.args.grammar _ c.requires.1.0 c.requires.1.1 c.requires.0) (sym c.if-not-is-sayable.ensures),
+      not_from_Decides _ (decides-sayable c.args.grammar _ c.requires.1.0 c.requires.1.1 c.requires.0) (sym c.if-not-is_sayable.ensures),
     ),
   ),
 )
@@ -23,7 +23,7 @@ returns-then-not-is_sayable c = (
 pub loop-slot-preserved : goal.loop-slot-preserved
 loop-slot-preserved c =
     All-more (Sayable c.args.grammar) c.args.rules.now c.loop-slot.slot _ c.loop-slot-test.true c.loop-slot.invariant
-    ((decides-sayable c.args.grammar _ c.requires.1.0 c.requires.1.1 c.requires.0).0 (sym c.if-not-is-sayable.ensures))
+    ((decides-sayable c.args.grammar _ c.requires.1.0 c.requires.1.1 c.requires.0).0 (sym c.if-not-is_sayable.ensures))
 
 pub returns : goal.returns
 returns c = subst (All (Sayable c.args.grammar)) (take_all c.loop-slot.slot c.args.rules.now c.loop-slot-test.false) c.loop-slot.invariant

@@ -15,9 +15,9 @@ loop-lower-init c = passed_none c.told-marks
 
 pub loop-lower-preserved : goal.loop-lower-preserved
 loop-lower-preserved c =
-    elim c.match-upper-of.branch [
+    elim c.match-upper_of.branch [
       | in-Some w ↦
-          rw (w.marks-is ∙ w.hand-on.ensures)
+          rw (w.marks-is ∙ w.hand_on.ensures)
           (passed-more c.loop-lower.invariant c.requires c.loop-lower-test.true w.in-Some.upper (sym w.in-Some.ensures))
       | in_default w ↦ rw w.marks-is (passed-skip c.loop-lower.invariant (sym w.in_default.ensures))
     ]

@@ -41,7 +41,7 @@ loop-r-preserved c =
       | then-floors-r w ↦ (
         omega (arith, w.next-is, c.loop-r.invariant.0, ap length (raised-yes xs r w.if-floors-r.true) ∙ length_push (raised xs r) r),
         w.slots-is
-            ∙ ap₂ (λ s t. set s c.loop-r.next t) c.loop-r.invariant.1 w.floor-rule.ensures
+            ∙ ap₂ (λ s t. set s c.loop-r.next t) c.loop-r.invariant.1 w.floor_rule.ensures
             ∙ ap (λ k. set (put rule xs at slots r) k (rule r)) c.loop-r.invariant.0
             ∙ put-more rule xs at slots total c.requires r c.loop-r-test.true w.if-floors-r.true,
       )

@@ -7,11 +7,11 @@ use Rattle.policies.proofs.rule_list.RuleList.reached.Goals as goal
 
 pub returns-then-rule_reaches : goal.returns-then-rule_reaches
 returns-then-rule_reaches c =
-    onward (rows_at_least c.args.self.now.ladder.rows) c.args.self.now.letter c.args.effect c.args.request c.args.self.now.rules.now c.loop-rule.rule-index _ true c.loop-rule-test.true c.if-rule-reaches.ensures c.loop-rule.invariant
+    onward (rows_at_least c.args.self.now.ladder.rows) c.args.self.now.letter c.args.effect c.args.request c.args.self.now.rules.now c.loop-rule.rule-index _ true c.loop-rule-test.true c.if-rule_reaches.ensures c.loop-rule.invariant
 
 pub loop-rule-preserved : goal.loop-rule-preserved
 loop-rule-preserved c =
-    onward (rows_at_least c.args.self.now.ladder.rows) c.args.self.now.letter c.args.effect c.args.request c.args.self.now.rules.now c.loop-rule.rule-index _ false c.loop-rule-test.true c.if-rule-reaches.ensures c.loop-rule.invariant
+    onward (rows_at_least c.args.self.now.ladder.rows) c.args.self.now.letter c.args.effect c.args.request c.args.self.now.rules.now c.loop-rule.rule-index _ false c.loop-rule-test.true c.if-rule_reaches.ensures c.loop-rule.invariant
 
 pub returns : goal.returns
 returns c =
