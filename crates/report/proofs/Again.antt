@@ -1,6 +1,6 @@
 -- A list that was read is lawful, and what is written of it is the text of that list.
 use Rattle.std.proofs.Common.{◌≡◌, ℕ, zero, suc, ◌-◌, ◌<◌, ◌≤◌, List, [], ◌∷◌, length, take, drop, Some, Ok, Err, Result, ap, ◌∙◌, subst, ⊎_elim, arith}
-use Rattle.std.specs.List.{slice_get, AllByRecursion as All}
+use Rattle.std.specs.List.{slice_get, AllByRecursion}
 use Rattle.std.proofs.lemmas.List.{take_at}
 use Rattle.rules.specs.declared.rule.Rule.{Rule}
 use Rattle.rulefile.specs.declared.grammar.Listing.{Listing}
@@ -14,7 +14,7 @@ use Rattle.report.specs.declared.refusal.Refusal.{Refusal}
 use Rattle.report.specs.declared.refusal.Refusal.TheVariants.{Text}
 use Rattle.report.specs.Inputs.{Holds, Tidied}
 
-nth-all : (P : Rule → Type 0) (xs : List Rule) (k : ℕ) (x : Rule) → All P xs → slice_get xs k ≡ Some x → P x
+nth-all : (P : Rule → Type 0) (xs : List Rule) (k : ℕ) (x : Rule) → AllByRecursion P xs → slice_get xs k ≡ Some x → P x
 nth-all P [] k x h e = let z : ◌≡◌ {A = ℕ} 0 1 = cc in absurd (omega arith)
 nth-all P (y ∷ ys) zero x h e = let s : y ≡ x = cc in subst P s h.0
 nth-all P (y ∷ ys) (suc k) x h e = nth-all P ys k x h.1 e

@@ -1,6 +1,6 @@
 -- The text of a lawful list, read back, is the list.
 use Rattle.std.proofs.Common.{◌≡◌, ℕ, suc, ◌+◌, ◌-◌, ◌≤◌, List, [], ◌∷◌, ◌++◌, map, length, Ok, Err, Result, sym, refl, ap, ◌∙◌, subst, ap₂, arith}
-use Rattle.std.specs.List.{AllByRecursion as All}
+use Rattle.std.specs.List.{AllByRecursion}
 use Rattle.std.proofs.ByRecursion.{All-weaker}
 use Rattle.lines.specs.Lines.{Span, span, Unbroken, ended, Lines, none, more}
 use Rattle.rules.specs.declared.rule.Rule.{Rule}
@@ -20,7 +20,7 @@ spelled-unbroken : (g : Grammar) (x : List ℕ) (t : Rule) → Spells g x t → 
 spelled-unbroken g x t s = subst Unbroken (sym s.bytes) (mark-unbroken t.effect, items-unbroken s.items (follow-known g [] s.items s.follow))
 
 -- the lines of the rules, of which the first has the number k and the offset s
-rules-written : (g : Grammar) (k s : ℕ) (ts : List Rule) → All (λ t. Spells g (line_of t) t) ts → (ls : List Span) × (Lines k s (lined (map line_of ts)) ls × Say g ls ts)
+rules-written : (g : Grammar) (k s : ℕ) (ts : List Rule) → AllByRecursion (λ t. Spells g (line_of t) t) ts → (ls : List Span) × (Lines k s (lined (map line_of ts)) ls × Say g ls ts)
 rules-written g k s [] h = ([], (none, nothing))
 rules-written g k s (t ∷ ts) (h, hs) =
     let text : List ℕ = lined (map line_of ts) in
@@ -57,7 +57,7 @@ module _ (posts : ℕ) (letter : Letter) (n : ℕ) (ts : List Rule) (some : 1 �
   read_back = record { list = by-grammar; once = one-reading posts (written letter n ts); read = back-again }
 
 -- Each rule that lines say is given by some line.
-said-sayable : {g : Grammar} {ls : List Span} {ts : List Rule} → Say g ls ts → All (Sayable g) ts
+said-sayable : {g : Grammar} {ls : List Span} {ts : List Rule} → Say g ls ts → AllByRecursion (Sayable g) ts
 said-sayable nothing = tt
 said-sayable (silence h s) = said-sayable s
 said-sayable (a-rule {l} h s) = ((l.bytes, h), said-sayable s)

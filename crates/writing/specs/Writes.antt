@@ -1,6 +1,6 @@
 -- What writing a list answers, and what it leaves in the text.
 use Rattle.std.specs.Prelude.{◌≡◌, ℕ, ◌<◌, ◌≤◌, ◌⊎◌, List, length, take, Some, Ok, Err, Result}
-use Rattle.std.specs.List.{slice_get, AllByRecursion as All}
+use Rattle.std.specs.List.{slice_get, AllByRecursion}
 use Rattle.rules.specs.declared.rule.Rule.{Rule}
 use Rattle.rules.specs.declared.letter.Letter.{Letter}
 use Rattle.rulefile.specs.declared.grammar.Grammar.{Grammar}
@@ -18,7 +18,7 @@ Sayable g t = (x : List ℕ) × Spells g x t
 
 -- A list is lawful where there are at most nine conditions and each of its rules is given by some line.
 abbrev pub LawfulList : ℕ → Letter → ℕ → List Rule → Type 0
-LawfulList posts letter n ts = (n ≤ 9) × All (Sayable (grammar letter n posts)) ts
+LawfulList posts letter n ts = (n ≤ 9) × AllByRecursion (Sayable (grammar letter n posts)) ts
 
 -- The file, read back, is the list of this letter, with n conditions and the rules ts: it is that list by the grammar, and no other list;
 -- and whatever reading it into slots enough answers and leaves is that list.
@@ -33,7 +33,7 @@ pub record ReadBack (posts : ℕ) (file : List ℕ) (letter : Letter) (n : ℕ) 
 abbrev pub FirstUnsaid : ℕ → Letter → ℕ → List Rule → ℕ → Type 0
 FirstUnsaid posts letter n ts k =
     ((9 < n) × (k ≡ 0))
-    ⊎ ((n ≤ 9) × (All (Sayable (grammar letter n posts)) (take k ts) × ((t : Rule) × ((slice_get ts k ≡ Some t) × (Sayable (grammar letter n posts) t → ⊥)))))
+    ⊎ ((n ≤ 9) × (AllByRecursion (Sayable (grammar letter n posts)) (take k ts) × ((t : Rule) × ((slice_get ts k ≡ Some t) × (Sayable (grammar letter n posts) t → ⊥)))))
 
 -- A list that is lawful and has room is written at the front of the text, and the other bytes stay. A refusal leaves every byte.
 abbrev pub Writes : ℕ → Letter → ℕ → List Rule → List ℕ → Result ℕ Unwritten → List ℕ → Type 0

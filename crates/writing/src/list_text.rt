@@ -1,6 +1,6 @@
 // The text of a list: how long it is, and writing it.
 ghost use Rattle.std.specs.Prelude.{◌≡◌, ◌+◌, ◌<◌, ◌≤◌, [], ◌∷◌, ◌++◌, map, length};
-ghost use Rattle.std.specs.List.{AllByRecursion as All};
+ghost use Rattle.std.specs.List.{AllByRecursion};
 ghost use Rattle.rulefile.specs.Files.{head_line, filled};
 ghost use Rattle.writing.specs.Written.{line_of, lined, written};
 ghost use Rattle.writing.specs.Steps.{over};
@@ -34,7 +34,7 @@ fn put_head(text: &mut [u8], letter: Letter, conditions: u8) -> usize
 
 // Writes the lines of the rules, and answers the place after them.
 fn put_rules(text: &mut [u8], at: usize, rules: &[Rule]) -> usize
-    requires { (All (λ t. t.floor < 8) rules.now) × (at + length (lined (map line_of rules.now)) ≤ length text.old) }
+    requires { (AllByRecursion (λ t. t.floor < 8) rules.now) × (at + length (lined (map line_of rules.now)) ≤ length text.old) }
     ensures text { text.new ≡ over text.old at (lined (map line_of rules.now)) }
     ensures next { result ≡ at + length (lined (map line_of rules.now)) }
 {
@@ -47,7 +47,7 @@ fn put_rules(text: &mut [u8], at: usize, rules: &[Rule]) -> usize
 
 // Writes the text of a list, and answers how many bytes it has.
 pub(crate) fn put_list(text: &mut [u8], letter: Letter, conditions: u8, rules: &[Rule]) -> usize
-    requires { (conditions ≤ 9) × ((All (λ t. t.floor < 8) rules.now) × (length (written letter conditions rules.now) ≤ length text.old)) }
+    requires { (conditions ≤ 9) × ((AllByRecursion (λ t. t.floor < 8) rules.now) × (length (written letter conditions rules.now) ≤ length text.old)) }
     ensures text { text.new ≡ filled (written letter conditions rules.now) text.old }
     ensures count { result ≡ length (written letter conditions rules.now) }
 {

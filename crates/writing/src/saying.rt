@@ -1,6 +1,6 @@
 // Which rules a line of the grammar can give.
 ghost use Rattle.std.specs.Prelude.{◌≡◌, ◌≤◌, take, Some, MatchOption};
-ghost use Rattle.std.specs.List.{slice_get, AllByRecursion as All};
+ghost use Rattle.std.specs.List.{slice_get, AllByRecursion};
 ghost use Rattle.rules.specs.declared.rule.Rule.{Rule};
 ghost use Rattle.writing.specs.Writes.{Sayable};
 ghost use Rattle.writing.specs.Steps.{in_range, names_once, allowed, can_say};
@@ -53,7 +53,7 @@ fn is_sayable(rule: &Rule, grammar: Grammar) -> bool
 // The slot of the first rule that no line of the grammar gives.
 pub(crate) fn first_unsaid(rules: &[Rule], grammar: Grammar) -> Option<usize>
     requires { (grammar.conditions ≤ 9) × ((1 ≤ grammar.posts) × (grammar.posts ≤ 8)) }
-    ensures { MatchOption result (All (Sayable grammar) rules.now) (λ k. All (Sayable grammar) (take k rules.now) × ((t : Rule) × ((slice_get rules.now k ≡ Some t) × (Sayable grammar t → ⊥)))) }
+    ensures { MatchOption result (AllByRecursion (Sayable grammar) rules.now) (λ k. AllByRecursion (Sayable grammar) (take k rules.now) × ((t : Rule) × ((slice_get rules.now k ≡ Some t) × (Sayable grammar t → ⊥)))) }
 {
     for (slot, rule) in rules.iter().enumerate() {
         if !is_sayable(rule, grammar) {

@@ -1,5 +1,5 @@
 use Rattle.std.proofs.Common.{sym, subst}
-use Rattle.std.specs.List.{AllByRecursion as All}
+use Rattle.std.specs.List.{AllByRecursion}
 use Rattle.std.proofs.ByRecursion.{All-more}
 use Rattle.std.proofs.lemmas.List.{take_all}
 use Rattle.std.proofs.lemmas.Option.{slice_get-get_or}
@@ -26,4 +26,4 @@ loop-slot-preserved c =
     ((decides-sayable c.args.grammar _ c.requires.1.0 c.requires.1.1 c.requires.0).0 (sym c.if-not-is_sayable.ensures))
 
 pub returns : goal.returns
-returns c = subst (All (Sayable c.args.grammar)) (take_all c.loop-slot.slot c.args.rules.now c.loop-slot-test.false) c.loop-slot.invariant
+returns c = subst (AllByRecursion (Sayable c.args.grammar)) (take_all c.loop-slot.slot c.args.rules.now c.loop-slot-test.false) c.loop-slot.invariant

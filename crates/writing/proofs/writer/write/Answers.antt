@@ -1,5 +1,5 @@
 use Rattle.std.proofs.Common.{◌<◌, subst, arith}
-use Rattle.std.specs.List.{AllByRecursion as All}
+use Rattle.std.specs.List.{AllByRecursion}
 use Rattle.std.proofs.ByRecursion.{All-weaker}
 use Rattle.rulefile.specs.Files.{grammar}
 use Rattle.writing.specs.Writes.{Sayable, LawfulList}
@@ -23,7 +23,7 @@ pub returns : goal.returns
 returns g c =
     let laws = g.met.L.Ladder.lawful c.args.ladder.now in
     let lawful : LawfulList (g.L.Ladder.posts c.args.ladder.now) c.args.letter c.args.conditions c.args.rules.now =
-    (omega arith, subst (λ k. All (Sayable (grammar c.args.letter c.args.conditions k)) c.args.rules.now) c.count.ensures c.in_default.ensures) in
+    (omega arith, subst (λ k. AllByRecursion (Sayable (grammar c.args.letter c.args.conditions k)) c.args.rules.now) c.count.ensures c.in_default.ensures) in
     let e = c.text_len-needed.ensures in
     let n = c.put_list.ensures.count in (
       lawful,
