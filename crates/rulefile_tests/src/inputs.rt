@@ -38,13 +38,15 @@ fn check_tidy(
     let mut text = [OLD_BYTE; 64];
     match (tidy_into(input, slots, room, &mut text), due) {
         (Ok(count), Ok(bytes)) => {
-            assert_eq!(rt; count, bytes.len());
-            check_text(rt, &text, bytes)
+            assert_eq!(rt; count, bytes.len(), "input {input:?}");
+            check_text(rt, &text, bytes);
+            Ok(())
         }
         (Err(refusal), Err(told)) => {
             let (figures, count) = refusal.figures();
-            assert_eq!(rt; (refusal.number(), figures, count), told);
-            check_text(rt, &text, &[])
+            assert_eq!(rt; (refusal.number(), figures, count), told, "input {input:?}");
+            check_text(rt, &text, &[]);
+            Ok(())
         }
         _ => Err(Fail::new("granted in place of refused, or refused in place of granted")),
     }
@@ -145,7 +147,7 @@ fn longest_input(rt: HostRuntime) -> Result<(), Fail> {
         input.push(last)?;
         let mut slots = [OLD_RULE; 4];
         check_tidy(&rt, &input, &mut slots, 64, due)?;
-        check_slots(&rt, &slots, rules)?;
+        check_slots(&rt, start, &slots, rules);
     }
     Ok(())
 }
@@ -183,9 +185,7 @@ fn short_inputs(rt: HostRuntime) -> Result<(), Fail> {
     for (input, slots, room, due) in SHORT {
         assert!(rt; slots <= 4);
         let mut held = [OLD_RULE; 4];
-        check_tidy(&rt, input, &mut held[0..slots], room, due).note(format_args!(
-            "input {input:?}"
-        ))?;
+        check_tidy(&rt, input, &mut held[0..slots], room, due)?;
     }
     Ok(())
 }

@@ -1,7 +1,6 @@
 // Lawful files, and the rules that they give.
 use crate::support::{OLD_RULE, Shape, check_slots, read_on};
 use std::process::Abort;
-use std::test::Fail;
 
 // A file, the posts of the ladder, the letter and the number of conditions, and the rules.
 type Case = (&'static [u8], usize, (char, u8), &'static [Shape]);
@@ -114,19 +113,18 @@ const MODELS: [Case; 7] = [
     ),
 ];
 
-fn check_lawful(rt: &impl Abort, cases: &[Case]) -> Result<(), Fail> {
+fn check_lawful(rt: &impl Abort, cases: &[Case]) {
     for (file, posts, head, rules) in cases {
         let mut slots = [OLD_RULE; 4];
         let found = read_on(*posts, file, &mut slots);
         assert_eq!(rt; found, Ok((head.0, head.1, rules.len())), "file {file:?}");
-        check_slots(rt, &slots, rules).note(format_args!("file {file:?}"))?;
+        check_slots(rt, file, &slots, rules);
     }
-    Ok(())
 }
 
 #[test]
-fn rules_of_lawful_files(rt: HostRuntime) -> Result<(), Fail> {
-    check_lawful(&rt, &LAYOUTS)?;
-    check_lawful(&rt, &ITEMS)?;
-    check_lawful(&rt, &MODELS)
+fn rules_of_lawful_files(rt: HostRuntime) {
+    check_lawful(&rt, &LAYOUTS);
+    check_lawful(&rt, &ITEMS);
+    check_lawful(&rt, &MODELS);
 }

@@ -3,7 +3,6 @@ use ladders::{House, Rank};
 use rulefile::{FileFault, Listing, read};
 use rules::{Effect, Rule};
 use std::process::Abort;
-use std::test::Fail;
 
 // What a reading answers: the letter, the number of conditions and the number of rules; or the number of a fault, its line and its
 // offset.
@@ -76,25 +75,23 @@ pub(crate) fn read_into(posts: usize, room: usize, file: &[u8], slots: &mut [Rul
     read_on(posts, file, &mut slots[0..lent])
 }
 
-// The rules stand in the first slots, and the other slots hold what they held.
-pub(crate) fn check_slots(rt: &impl Abort, slots: &[Rule], rules: &[Shape]) -> Result<(), Fail> {
+// The rules of a file stand in the first slots, and the other slots hold what they held.
+pub(crate) fn check_slots(rt: &impl Abort, file: &[u8], slots: &[Rule], rules: &[Shape]) {
     assert!(rt; rules.len() <= slots.len());
     for (i, slot) in slots.iter().enumerate() {
         let due = rules.get(i).copied().unwrap_or(OLD);
-        assert_eq!(rt; shape(*slot), due, "slot {i}");
+        assert_eq!(rt; shape(*slot), due, "file {file:?}, slot {i}");
     }
-    Ok(())
 }
 
 // What each byte of a text holds before a writing. No text has it.
 pub const OLD_BYTE: u8 = b'?';
 
 // The bytes stand at the front of the text, and the other bytes hold what they held.
-pub(crate) fn check_text(rt: &impl Abort, text: &[u8], bytes: &[u8]) -> Result<(), Fail> {
+pub(crate) fn check_text(rt: &impl Abort, text: &[u8], bytes: &[u8]) {
     assert!(rt; bytes.len() <= text.len());
     for (i, byte) in text.iter().enumerate() {
         let due = bytes.get(i).copied().unwrap_or(OLD_BYTE);
-        assert_eq!(rt; *byte, due, "byte {i}");
+        assert_eq!(rt; *byte, due, "text {bytes:?}, byte {i}");
     }
-    Ok(())
 }

@@ -3,7 +3,6 @@ use crate::support::{OLD_BYTE, OLD_RULE, Shape, check_slots, check_text, read_on
 use ladders::{House, Rank};
 use rules::{Letter, Model, Rule};
 use std::process::Abort;
-use std::test::Fail;
 use writing::{Unwritten, write};
 
 const A: Letter = Letter::Model(Model::A);
@@ -69,32 +68,35 @@ const LINES: [Line; 15] = [
 ];
 
 // The list of one rule is written as due, with no more room than it has bytes, and not with less.
-fn check_line(rt: &impl Abort, line: Line) -> Result<(), Fail> {
+fn check_line(rt: &impl Abort, line: Line) {
     let (with, shape, due) = line;
     let len = due.len();
     assert!(rt; 1 <= len);
     let rules = [rule(shape)];
     let mut text = [OLD_BYTE; ROOM];
-    assert_eq!(rt; write_into(with, &rules, len, &mut text), Ok(len));
-    check_text(rt, &text, due)?;
+    assert_eq!(rt;
+        write_into(with, &rules, len, &mut text),
+        Ok(len),
+        "{due:?}"
+    );
+    check_text(rt, &text, due);
     let mut less = [OLD_BYTE; ROOM];
     let short = write_into(with, &rules, len - 1, &mut less);
-    assert_eq!(rt; short, Err(Unwritten::NoRoom(len as u128)));
-    check_text(rt, &less, &[])
+    assert_eq!(rt; short, Err(Unwritten::NoRoom(len as u128)), "{due:?}");
+    check_text(rt, &less, &[]);
 }
 
 // Each text is the one due, and is read as the rule again.
 #[test]
-fn lines_of_rules(rt: HostRuntime) -> Result<(), Fail> {
+fn lines_of_rules(rt: HostRuntime) {
     for line in LINES {
         let ((letter, n, posts), shape, text) = line;
-        check_line(&rt, line).note(format_args!("{text:?}"))?;
+        check_line(&rt, line);
         let mut slots = [OLD_RULE; 2];
         let found = read_on(posts, text, &mut slots);
         assert_eq!(rt; found, Ok((letter.symbol(), n, 1)));
-        check_slots(&rt, &slots, &[shape])?;
+        check_slots(&rt, text, &slots, &[shape]);
     }
-    Ok(())
 }
 
 // A rule that no line gives.
@@ -122,7 +124,7 @@ const UNSAID: [(With, Shape); 19] = [
 
 // The first such slot is told, before any want of room, and no byte is written.
 #[test]
-fn rules_that_no_line_gives(rt: HostRuntime) -> Result<(), Fail> {
+fn rules_that_no_line_gives(rt: HostRuntime) {
     for (with, shape) in UNSAID {
         let said = rule(('+', 0, 0, 0, 0));
         let unsaid = rule(shape);
@@ -131,29 +133,27 @@ fn rules_that_no_line_gives(rt: HostRuntime) -> Result<(), Fail> {
             let rules = [said, unsaid, unsaid];
             let found = write_into(with, &rules, room, &mut text);
             assert_eq!(rt; found, Err(Unwritten::NoLine(1)), "{shape:?}");
-            check_text(&rt, &text, &[])?;
+            check_text(&rt, &text, &[]);
         }
     }
-    Ok(())
 }
 
 // Lists without rules: the first line alone, or a refusal.
 #[test]
-fn heads(rt: HostRuntime) -> Result<(), Fail> {
+fn heads(rt: HostRuntime) {
     for (letter, symbol) in [(G, b'G'), (A, b'A'), (B, b'B'), (C, b'C'), (D, b'D')] {
         for n in 0..10 {
             let mut text = [OLD_BYTE; 6];
             assert_eq!(rt; write_into((letter, n, 1), &[], 6, &mut text), Ok(4));
-            check_text(&rt, &text, &[symbol, b' ', b'0' + n, b'\n'])?;
+            check_text(&rt, &text, &[symbol, b' ', b'0' + n, b'\n']);
         }
         for n in [10, 11, 64, 255] {
             let mut text = [OLD_BYTE; 6];
             let found = write_into((letter, n, 1), &[], 6, &mut text);
             assert_eq!(rt; found, Err(Unwritten::NoLine(0)));
-            check_text(&rt, &text, &[])?;
+            check_text(&rt, &text, &[]);
         }
     }
-    Ok(())
 }
 
 #[test]
