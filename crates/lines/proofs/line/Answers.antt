@@ -14,7 +14,7 @@ returns-then-found-k c =
     record {
       handed =
           hands c.args.file c.loop-found.reader.file c.args.k c.loop-found.reader.read c.loop-found.reader.at c.in-Some.found
-          c.next-line.new.self.read c.next-line.new.self.at (c.loop-found.invariant.0 ∙ c.new-reader.ensures.file) c.loop-found.invariant.1
+          c.next_line.new.self.read c.next_line.new.self.at (c.loop-found.invariant.0 ∙ c.new-reader.ensures.file) c.loop-found.invariant.1
           c.in-Some.ensures.next c.if-found-k.true;
       split = one_split c.args.file.now;
     }
@@ -25,9 +25,9 @@ loop-found-preserved c =
     let number = s.number in
     let counted = s.counted in
     let missed = c.loop-found.invariant.2 in (
-      c.next-line.ensures.same ∙ c.loop-found.invariant.0,
-      past-step c.loop-found.reader.file c.next-line.new.self.file c.loop-found.reader.read c.loop-found.reader.at c.in-Some.found
-          c.next-line.new.self.read c.next-line.new.self.at c.next-line.ensures.same c.loop-found.invariant.1 s,
+      c.next_line.ensures.same ∙ c.loop-found.invariant.0,
+      past-step c.loop-found.reader.file c.next_line.new.self.file c.loop-found.reader.read c.loop-found.reader.at c.in-Some.found
+          c.next_line.new.self.read c.next_line.new.self.at c.next_line.ensures.same c.loop-found.invariant.1 s,
       λ h. let m = missed h in let apart = c.if-found-k.false in omega arith,
     )
 
@@ -36,6 +36,6 @@ returns c =
     record {
       handed =
           hands_none c.args.file c.loop-found.reader.file c.args.k c.loop-found.reader.read c.loop-found.reader.at
-          (c.loop-found.invariant.0 ∙ c.new-reader.ensures.file) c.loop-found.invariant.1 c.in-default.ensures.next.0 c.loop-found.invariant.2;
+          (c.loop-found.invariant.0 ∙ c.new-reader.ensures.file) c.loop-found.invariant.1 c.in_default.ensures.next.0 c.loop-found.invariant.2;
       split = one_split c.args.file.now;
     }
