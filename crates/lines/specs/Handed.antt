@@ -1,4 +1,4 @@
--- What the calls of this crate hand out, told by the lines of the file. A line is handed out as a part of the caller's own bytes: where a reference points is its block, `.ptr .0`, and the byte in it, `.ptr .1`.
+-- What the calls of this crate hand out, told by the lines of the file. A line is handed out as a part of the caller's own bytes: where a reference points is its block, `.ref_ptr.0`, and the byte in it, `.ref_ptr.1`.
 use Rattle.std.specs.Prelude.{◌≡◌, ℕ, ◌+◌, ◌-◌, ◌<◌, ◌≤◌, ◌⊎◌, List, length, drop, Some, None, Option}
 use Rattle.std.specs.Borrow.{Bor}
 use Rattle.std.specs.List.{slice_get}

@@ -1,5 +1,5 @@
 -- The lines of a file. A line ends at byte 10; the last one counts with or without it, and an ending byte 10 starts no further line.
-use Rattle.std.specs.Prelude.{◌≡◌, ℕ, suc, ◌+◌, ◌-◌, ◌<◌, List, [], ◌∷◌, ◌++◌, length, ◌≢◌}
+use Rattle.std.specs.Prelude.{ℕ, suc, ◌+◌, ◌-◌, ◌<◌, List, [], ◌∷◌, ◌++◌, length, ◌≢◌}
 use Rattle.std.specs.List.{AllByRecursion as All}
 
 -- A line: its number, counted from 1, the offset of its first byte in the file, and its bytes without the end.

@@ -14,7 +14,7 @@ loop-line-preserved c =
     let s = c.in-Some.ensures.next in
     let counted = s.counted in (
       c.next_line.ensures.same ∙ c.loop-line.invariant.0,
-      past-step c.loop-line.reader.file c.next_line.new.self.file c.loop-line.reader.read c.loop-line.reader.at c.in-Some.-line
+      past-step c.loop-line.reader.file c.next_line.new.self.file c.loop-line.reader.read c.loop-line.reader.at c.in-Some._line
           c.next_line.new.self.read c.next_line.new.self.at c.next_line.ensures.same c.loop-line.invariant.1 s,
       omega arith,
     )
