@@ -1,6 +1,6 @@
 -- The lines of a file. A line ends at byte 10; the last one counts with or without it, and an ending byte 10 starts no further line.
 use Rattle.std.specs.Prelude.{ℕ, suc, ◌+◌, ◌-◌, ◌<◌, List, [], ◌∷◌, ◌++◌, length, ◌≢◌}
-use Rattle.std.specs.List.{AllByRecursion as All}
+use Rattle.std.specs.List.{AllByRecursion}
 
 -- A line: its number, counted from 1, the offset of its first byte in the file, and its bytes without the end.
 pub record Span : Type 0 where
@@ -13,7 +13,7 @@ span k s x = record { number = k; start = s; bytes = x }
 
 -- No byte of x ends a line.
 abbrev pub Unbroken : List ℕ → Type 0
-Unbroken x = All (λ b. b ≢ 10) x
+Unbroken x = AllByRecursion (λ b. b ≢ 10) x
 
 -- The first line of the bytes xs is x, and ys is what follows its end: either byte 10 ends it, or the file does.
 pub data FirstLine : List ℕ → List ℕ → List ℕ → Type 0 where

@@ -9,7 +9,8 @@ pub returns-then-counts : goal.returns-then-counts
 returns-then-counts c =
     elim c.if-eq.branch [
       | then-eq w ↦
+          let same : c.args.rule.effect ≡ c.args.effect = search rules in
           let count : true ≡ counts c.args.self.now.letter c.args.rule = search rules in
-          rule-applies (held c.args.self.now.ladder.lawful) c.args.self.now.letter c.args.effect c.args.request c.args.rule c.applies.result w.if-eq.ensures count c.applies.ensures
+          rule-applies (held c.args.self.now.ladder.lawful) c.args.self.now.letter c.args.effect c.args.request c.args.rule c.applies.result same count c.applies.ensures
       | else-eq w ↦ search rules
     ]
