@@ -1,6 +1,6 @@
 -- What the reader answers of a whole file is what the file says: the first place at fault, or the one list that it holds.
-use Rattle.std.proofs.Common.{◌≡◌, ℕ, zero, suc, ◌+◌, ◌-◌, ◌<◌, ◌≤◌, Bool, true, false, cond, ltb, ◌⊎◌, List, [], ◌∷◌, ◌++◌, length, take, drop, Some, None, Ok, Err, Option, Result, sym, refl, ap, ◌∙◌, subst, ap₂, inl, inr, ⊎_elim, arith, Bor}
-use Rattle.std.specs.List.{slice_get, flat_map, AllByRecursion as All}
+use Rattle.std.proofs.Common.{◌≡◌, ℕ, zero, suc, ◌+◌, ◌-◌, ◌<◌, ◌≤◌, Bool, true, false, cond, ltb, List, [], ◌∷◌, ◌++◌, length, take, drop, Some, None, Ok, Err, Option, Result, sym, refl, ap, ◌∙◌, subst, ap₂, inl, inr, ⊎_elim, arith, Bor}
+use Rattle.std.specs.List.{slice_get, flat_map, AllByRecursion}
 use Rattle.std.proofs.ByRecursion.{All-append}
 use Rattle.std.proofs.lemmas.List.{take-take}
 use Rattle.std.proofs.lemmas.Bool.{both_ways, cases_order, lt-ltb}
@@ -266,7 +266,7 @@ text-unbroken : (b : Bool) (x : Name) → Known x → Unbroken (text b x)
 text-unbroken true x h = (λ e. omega arith, (λ e. omega arith, (name-unbroken x h, tt)))
 text-unbroken false x h = (λ e. omega arith, (name-unbroken x h, tt))
 
-pub items-unbroken : (is : List Item) → All (λ i. Known i.name) is → Unbroken (flat_map spelled is)
+pub items-unbroken : (is : List Item) → AllByRecursion (λ i. Known i.name) is → Unbroken (flat_map spelled is)
 items-unbroken [] h = tt
 items-unbroken (i ∷ is) h = All-append (λ b. b ≡ 10 → ⊥) (spelled i) (flat_map spelled is) (text-unbroken i.barred i.name h.0) (items-unbroken is h.1)
 

@@ -1,6 +1,6 @@
 -- What the reader answers of a whole line is what the line says.
-use Rattle.std.proofs.Common.{◌≡◌, ℕ, suc, ◌+◌, ◌-◌, ◌<◌, ◌≤◌, Bool, true, false, cond, eqb, ◌⊎◌, List, [], ◌∷◌, ◌++◌, length, Ok, Err, Result, sym, refl, ap, ◌∙◌, subst, ap₂, inl, inr, ⊎_elim, append_assoc, append-nil, add-zero, arith, length-append}
-use Rattle.std.specs.List.{flat_map, AllByRecursion as All}
+use Rattle.std.proofs.Common.{◌≡◌, ℕ, suc, ◌+◌, ◌<◌, ◌≤◌, Bool, true, false, cond, eqb, List, [], ◌∷◌, ◌++◌, length, Ok, Err, Result, sym, refl, ap, ◌∙◌, subst, ap₂, inl, inr, ⊎_elim, append_assoc, append-nil, add-zero, arith, length-append}
+use Rattle.std.specs.List.{flat_map, AllByRecursion}
 use Rattle.std.proofs.lemmas.List.{nil_from_length, flat_map_more}
 use Rattle.std.proofs.lemmas.Bool.{both_ways, cond_both, eqb-true, eqb-false}
 use Rattle.lines.specs.declared.reader.Place.{Place}
@@ -23,7 +23,7 @@ use Rattle.rulefile.proofs.Drafts.{repeats-again, means-drafted, drafted-effect,
 use Rattle.rulefile.proofs.Places.{Ready, first-place}
 use Rattle.rulefile.proofs.ItemLaw.{Told, ItemSays, item-says, guarded-true, guarded-false}
 
-pub follow-known : (g : Grammar) (before is : List Item) → Follow g before is → All (λ i. Known i.name) is
+pub follow-known : (g : Grammar) (before is : List Item) → Follow g before is → AllByRecursion (λ i. Known i.name) is
 follow-known g before [] f = tt
 follow-known g before (i ∷ is) f = (f.0.known, follow-known g (before ++ (i ∷ [])) is f.1)
 

@@ -1,6 +1,6 @@
 -- Which places of a line are not at fault: none within items that may stand there.
-use Rattle.std.proofs.Common.{◌≡◌, ℕ, ◌+◌, ◌<◌, Bool, true, false, ◌⊎◌, List, [], ◌∷◌, ◌++◌, length, Some, sym, refl, ap, ◌∙◌, subst, ap₂, inl, inr, ⊎_elim, append_assoc, append-nil, arith, length-append}
-use Rattle.std.specs.List.{flat_map, AllByRecursion as All}
+use Rattle.std.proofs.Common.{◌≡◌, ℕ, ◌<◌, Bool, true, false, ◌⊎◌, List, [], ◌∷◌, ◌++◌, length, Some, sym, refl, ap, ◌∙◌, subst, ap₂, inl, inr, ⊎_elim, append_assoc, append-nil, arith, length-append}
+use Rattle.std.specs.List.{flat_map, AllByRecursion}
 use Rattle.std.proofs.lemmas.Bool.{both_ways}
 use Rattle.rules.specs.declared.letter.Letter.TheVariants.{Guarded}
 use Rattle.rulefile.specs.declared.grammar.Grammar.{Grammar}
@@ -99,7 +99,7 @@ begun-short banged false x rest more k e = let t : byte_of x ≡ 33 = cc in absu
 
 -- After items that may stand there, the first place that can be at fault is the one after what is begun.
 pub first-place : (g : Grammar) (before is : List Item) (part : Begun) (rest : List ℕ) (is' : List Item) (part' : Begun) (rest' : List ℕ) (kind : Kind)
-    → Follow g before is → Ready g part → All (λ i. Known i.name) is'
+    → Follow g before is → Ready g part → AllByRecursion (λ i. Known i.name) is'
     → flat_map spelled is ++ (begun part ++ rest) ≡ flat_map spelled is' ++ (begun part' ++ rest')
     → Amiss g (before ++ is') part' rest' kind
     → (length (flat_map spelled is ++ begun part) < length (flat_map spelled is' ++ begun part')) ⊎ ((is ≡ is') × ((part ≡ part') × (rest ≡ rest')))

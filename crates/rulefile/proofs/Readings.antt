@@ -1,7 +1,7 @@
 -- A line by the grammar has no fault, and gives one rule.
-use Rattle.std.proofs.Common.{◌≡◌, ℕ, suc, ◌+◌, ◌<◌, ◌≤◌, Bool, true, false, not, ◌&&◌, ◌||◌, eqb, ◌⊎◌, List, [], ◌∷◌, ◌++◌, length, sym, refl, ap, ◌∙◌, subst, ap₂, inl, inr, ⊎_elim, append_assoc, append-nil, arith, length-append}
+use Rattle.std.proofs.Common.{◌≡◌, ℕ, suc, ◌<◌, ◌≤◌, Bool, true, false, not, ◌&&◌, ◌||◌, eqb, List, [], ◌∷◌, ◌++◌, length, sym, refl, ap, ◌∙◌, subst, ap₂, inl, inr, ⊎_elim, append_assoc, append-nil, arith, length-append}
 use mathlib.Core.Bool.{or-true}
-use Rattle.std.specs.List.{flat_map, AllByRecursion as All}
+use Rattle.std.specs.List.{flat_map, AllByRecursion}
 use Rattle.std.proofs.lemmas.Bool.{both_ways, eq-eqb, or_cases, cases_Bool}
 use Rattle.ladders.proofs.Sets.{bits-same}
 use Rattle.rules.specs.declared.rule.Effect.{Effect}
@@ -64,7 +64,7 @@ no_text : (b : Bool) (x : Name) (xs : List ℕ) → [] ≡ spelled (item b x) ++
 no_text true x xs e = let z : ◌≡◌ {A = ℕ} 0 1 = cc in omega arith
 no_text false x xs e = let z : ◌≡◌ {A = ℕ} 0 1 = cc in omega arith
 
-joined-one : (is js : List Item) → All (λ i. Known i.name) is → All (λ i. Known i.name) js → flat_map spelled is ≡ flat_map spelled js → is ≡ js
+joined-one : (is js : List Item) → AllByRecursion (λ i. Known i.name) is → AllByRecursion (λ i. Known i.name) js → flat_map spelled is ≡ flat_map spelled js → is ≡ js
 joined-one [] [] h k e = refl
 joined-one [] (j ∷ js) h k e = absurd (no_text j.barred j.name (flat_map spelled js) e)
 joined-one (i ∷ is) [] h k e = absurd (no_text i.barred i.name (flat_map spelled is) (sym e))

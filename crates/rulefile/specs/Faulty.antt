@@ -1,6 +1,6 @@
 -- Which places of a rule line are at fault, and how.
 use Rattle.std.specs.Prelude.{◌≡◌, ℕ, suc, ◌≤◌, Bool, true, false, ◌⊎◌, List, [], ◌∷◌, ◌++◌, length, Some, ◌≢◌}
-use Rattle.std.specs.List.{flat_map, AllByRecursion as All}
+use Rattle.std.specs.List.{flat_map, AllByRecursion}
 use Rattle.rules.specs.declared.letter.Letter.TheVariants.{Guarded}
 use Rattle.rulefile.specs.declared.grammar.Grammar.{Grammar}
 use Rattle.rulefile.specs.declared.grammar.Name.{Name}
@@ -64,7 +64,7 @@ pub record InItems (g : Grammar) (x : List ℕ) (j : ℕ) (kind : Kind) : Type 0
   pub items : List Item
   pub part : Begun
   pub rest : List ℕ
-  pub known : All (λ i. Known i.name) items
+  pub known : AllByRecursion (λ i. Known i.name) items
   pub bytes : x ≡ mark ∷ (flat_map spelled items ++ (begun part ++ rest))
   pub place : j ≡ suc (length (flat_map spelled items ++ begun part))
   pub amiss : Amiss g items part rest kind

@@ -5,7 +5,7 @@ use Rattle.rulefile.proofs.items.read_items.Goals as goal
 
 pub returns-in_err-item : goal.returns-in_err-item
 returns-in_err-item c =
-    let p = err_from_is_err_and c.from-residual.result c.from-residual.ensures.1 in
+    let p = err_from_is_err_and c.from_residual.result c.from_residual.ensures.1 in
     rw (p.1, p.2)
     (c.loop-rest.invariant.0 (Err c.in_err-item.field-0.0) (bad (search rules) (sym c.in_err-item.ensures.value)))
 

@@ -25,7 +25,7 @@ returns-in_default-read_head g c =
 
 pub returns-in_err-rules : goal.returns-in_err-rules
 returns-in_err-rules g c =
-    let p = err_from_is_err_and c.from-residual.result c.from-residual.ensures.1 in
+    let p = err_from_is_err_and c.from_residual.result c.from_residual.ensures.1 in
     rw (p.1, p.2)
     (record {
       answer =

@@ -11,7 +11,7 @@ loop-line-init c = (refl, (omega arith, λ ls h. sofar-none c.args.reader.now.fi
 
 pub returns-in_err-rule : goal.returns-in_err-rule
 returns-in_err-rule c =
-    let p = err_from_is_err_and c.from-residual.result c.from-residual.ensures.1 in
+    let p = err_from_is_err_and c.from_residual.result c.from_residual.ensures.1 in
     rw (p.1, p.2)
     (λ ls h.
     sofar-stopped (ap (λ f. f.now) c.loop-line.invariant.0) (c.loop-line.invariant.1.1 ls h) c.in-Some.ensures.next

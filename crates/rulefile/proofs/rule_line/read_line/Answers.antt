@@ -18,7 +18,7 @@ marked-line g room p x r h = subst (λ xs. LineSays g room p xs r) (sym (first_r
 
 pub returns-in_err-effect : goal.returns-in_err-effect
 returns-in_err-effect c =
-    let p = err_from_is_err_and c.from-residual.result c.from-residual.ensures.1 in
+    let p = err_from_is_err_and c.from_residual.result c.from_residual.ensures.1 in
     rw (p.1, p.2)
     (marked-line c.args.grammar c.args.room c.args.line.place c.args.line.bytes.now (Err (Line c.in_err-effect.field-0.0)) (omega (arith, ltb-false))
     (wrong-mark c.args.grammar c.args.room c.args.line.place (get_or c.args.line.bytes.now 0 0) _ (ne_eqb (get_or c.args.line.bytes.now 0 0) 35 c.if-mark-eq-COMMENT.false) c.in_err-effect.field-0.0 (sym c.in_err-effect.ensures)))
@@ -30,7 +30,7 @@ returns-then-not-room c =
 
 pub returns-in_err-rule : goal.returns-in_err-rule
 returns-in_err-rule c =
-    let p = err_from_is_err_and c.from-residual-in_err-rule.result c.from-residual-in_err-rule.ensures.1 in
+    let p = err_from_is_err_and c.from_residual-in_err-rule.result c.from_residual-in_err-rule.ensures.1 in
     rw (p.1, p.2)
     (marked-line c.args.grammar c.args.room c.args.line.place c.args.line.bytes.now (Err (Line c.in_err-rule.field-0.0)) (omega (arith, ltb-false))
     (itemed-line c.args.grammar c.args.room c.args.line.place (get_or c.args.line.bytes.now 0 0) _ (ne_eqb (get_or c.args.line.bytes.now 0 0) 35 c.if-mark-eq-COMMENT.false) c.in_ok-effect.effect (Err c.in_err-rule.field-0.0) (sym c.in_ok-effect.ensures) c.if-not-room.false
