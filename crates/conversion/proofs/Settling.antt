@@ -11,7 +11,6 @@ use Rattle.rules.specs.declared.rule.Effect.TheVariants.{Permit, Deny}
 use Rattle.rules.specs.declared.rule.Rule.{Rule}
 use Rattle.rules.specs.Filled.{filled}
 use Rattle.rules.specs.Models.{default_overrides, lead}
-use Rattle.rules.specs.Requests.{request_total}
 use Rattle.policies.specs.Policies.{Meaning}
 use Rattle.expressiveness.specs.Order.{CounterFloor, Gap as IsGap, LeadFloor, Rising, Step as IsStep}
 use Rattle.expressiveness.specs.Floors.{Led, Over}
@@ -153,12 +152,12 @@ module _ {posts : ℕ} {f : ℕ → ℕ → Bool} {n : ℕ} (laws : Lawful posts
       pub converts-stopped : (x : Unconverted) → Shaped o (default_overrides m) led (Err x) → Converts posts f n p m work slots (Err x) work' slots
       converts-stopped x shaped =
           converts laws (as-ordered is (λ q g k. Answers q g k p m work slots (Err x) work' slots)
-              (subst (λ (w : List ℕ). Answers (row_posts o.ladder.rows) (rows_at_least o.ladder.rows) o.conditions p m work slots (Err x) w slots) (sym chart-is)
-              (stopped o p m size work slots room led charted-bytes x shaped)))
+          (subst (λ (w : List ℕ). Answers (row_posts o.ladder.rows) (rows_at_least o.ladder.rows) o.conditions p m work slots (Err x) w slots) (sym chart-is)
+          (stopped o p m size work slots room led charted-bytes x shaped)))
 
       pub converts-made : (floors : FloorFlags) → Shaped o (default_overrides m) led (Ok floors) → (r : Result (ℕ × ℕ) Unconverted) (slots' : List Rule)
           → Listed o m floors slots r slots' → Converts posts f n p m work slots r work' slots'
       converts-made floors shaped r slots' listed =
           converts laws (as-ordered is (λ q g k. Answers q g k p m work slots r work' slots')
-              (subst (λ (w : List ℕ). Answers (row_posts o.ladder.rows) (rows_at_least o.ladder.rows) o.conditions p m work slots r w slots') (sym chart-is)
-              (made o p m size work slots room led charted-bytes floors shaped r slots' listed)))
+          (subst (λ (w : List ℕ). Answers (row_posts o.ladder.rows) (rows_at_least o.ladder.rows) o.conditions p m work slots r w slots') (sym chart-is)
+          (made o p m size work slots room led charted-bytes floors shaped r slots' listed)))

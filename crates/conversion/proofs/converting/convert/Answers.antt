@@ -1,4 +1,3 @@
-use Rattle.std.proofs.Common.{◌≡◌}
 use Rattle.std.proofs.lemmas.Result.{err_from_is_err_and}
 use Rattle.conversion.proofs.Cases.{worked-cases}
 use Rattle.conversion.proofs.Settling.{converts-few-bytes, converts-made, converts-misfit, converts-stopped}
@@ -16,6 +15,12 @@ returns-in_err-order-clause-worked g c = worked-cases
 
 pub returns-then-work-order-clause-worked : goal.returns-then-work-order-clause-worked
 returns-then-work-order-clause-worked g c = worked-cases
+
+pub returns-then-work-order-clause-converts : goal.returns-then-work-order-clause-converts
+returns-then-work-order-clause-converts g c =
+    let (is, size) = c.in_ok-order.ensures in
+    converts-few-bytes (g.met.L.Ladder.lawful c.args.ladder.now) (g.P.Policy.meaning c.args.policy.now) c.args.model c.args.work.now c.args.slots.now c.in_ok-order.order is size
+    c.if-work-order.true
 
 pub returns-in_err-floors-clause-converts : goal.returns-in_err-floors-clause-converts
 returns-in_err-floors-clause-converts g c =

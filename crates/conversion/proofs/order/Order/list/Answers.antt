@@ -1,4 +1,4 @@
-use Rattle.std.proofs.Common.{◌≡◌, ◌+◌, arith}
+use Rattle.std.proofs.Common.{arith}
 use Rattle.expressiveness.proofs.Lists.{length-list}
 use Rattle.conversion.proofs.Putting.{both-put}
 use Rattle.conversion.proofs.Raised.{raised-few}
