@@ -3,7 +3,7 @@ use Rattle.std.proofs.Common.{◌≡◌, ℕ, ◌+◌, ◌-◌, ◌*◌, ◌/◌
 use native.Mathlib.Nat.{div-eq_of_lt}
 use lib.Bits.{bit_and, bit_or, and_zero_r}
 use Rattle.std.proofs.lemmas.Nat.{and_mask, div-add-mod', div-mul-add, mod_below, mod-mul-add, or_disjoint, or_shr, pow_below, shr-shr, shr_split}
-use Rattle.std.proofs.lemmas.Bool.{and_right, cases_Bool, cases_lt, eqb-true, eq-eqb, false≢true, ne_eqb}
+use Rattle.std.proofs.lemmas.Bool.{cases_lt, eqb-true, false≢true, ne_eqb}
 use Rattle.ladders.specs.Sets.{holds}
 use Rattle.ladders.proofs.Sets.{and-holds, and_none, bits-same, not-holds-at, or-holds, power-holds, zero-holds}
 

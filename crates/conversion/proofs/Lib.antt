@@ -7,3 +7,5 @@ pub mod Passes
 pub mod Shaping
 pub mod Raised
 pub mod Putting
+pub mod Likeness
+pub mod Settling

@@ -1,14 +1,13 @@
 -- Links between requests next to one another, and how they lead to all requests on one side.
 use Rattle.std.proofs.Common.{◌≡◌, ℕ, ◌+◌, ◌*◌, ◌/◌, ◌%◌, ◌^◌, ◌<◌, ◌≤◌, Bool, true, false, cond, ◌||◌, eqb, ◌⊎◌, Some, None, sym, refl, ap, ◌∙◌, subst, inl, inr, ⊎_elim, arith, pow_pos}
 use lib.Bits.{and_self}
-use Rattle.std.proofs.lemmas.Nat.{div_below, div-mul-add, mod_below, mod-mul-add, shr_split}
-use Rattle.std.proofs.lemmas.Bool.{cases_Bool, cases_eq, cases_lt, cond-false, cond-true, eq-eqb, eqb-true, false≢true, ne_eqb, or_cases, or_left, or_right}
+use Rattle.std.proofs.lemmas.Nat.{div-mul-add, mod_below, mod-mul-add, shr_split}
+use Rattle.std.proofs.lemmas.Bool.{cases_Bool, cases_eq, cases_lt, cond-false, cond-true, eq-eqb, eqb-true, false≢true, ne_eqb, or_left, or_right}
 use Rattle.ladders.specs.Ladders.{Lawful}
 use Rattle.ladders.specs.Rows.{row_posts, rows_at_least}
 use Rattle.ladders.specs.Sets.{holds}
 use Rattle.ladders.specs.Copies.{held}
 use Rattle.ladders.proofs.Sets.{none-past}
-use Rattle.rules.specs.Requests.{request_at, request_total}
 use Rattle.expressiveness.specs.Order.{Above as IsAbove}
 use Rattle.expressiveness.specs.Floors.{Over}
 use Rattle.expressiveness.proofs.Ground.{Ground}

@@ -4,7 +4,7 @@ use lib.ListN.{length-replicate, get_or-replicate}
 use Rattle.std.proofs.lemmas.Nat.{div-mul-add, mod-mul-add}
 use Rattle.std.proofs.lemmas.List.{get_or_past}
 use Rattle.std.proofs.lemmas.Bool.{cases_eq, cases_lt, false≢true, or_cases, or_left, or_right}
-use Rattle.ladders.specs.Rows.{row_posts, rows_at_least}
+use Rattle.ladders.specs.Rows.{rows_at_least}
 use Rattle.ladders.specs.Copies.{held}
 use Rattle.expressiveness.proofs.Ground.{above-chain}
 use Rattle.conversion.specs.declared.beyond.Link.{Link}
@@ -13,7 +13,7 @@ use Rattle.conversion.specs.declared.order.Order.{Order}
 use Rattle.conversion.specs.declared.order.Side.{Side}
 use Rattle.conversion.specs.declared.order.Side.TheVariants.{Above, Below}
 use Rattle.conversion.specs.Flags.{Up}
-use Rattle.conversion.specs.Beyond.{Beyond, Full, LinkOf, NearTo, Passed, Posted, Sound, Tells, from_of, handed_on, of_of, pair_of, upper_of}
+use Rattle.conversion.specs.Beyond.{Beyond, Full, LinkOf, Passed, Posted, Sound, Tells, from_of, handed_on, of_of, pair_of, upper_of}
 use Rattle.conversion.proofs.Links.{Onward, by_condition, by-posts, by-posts-same, link_up, lower_post, near_none, plain, upper_post}
 
 -- one flag put up, or not

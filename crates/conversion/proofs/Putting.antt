@@ -1,9 +1,13 @@
 -- Rules put into slots one after the other, for the flags that are up.
-use Rattle.std.proofs.Common.{◌≡◌, ℕ, ◌+◌, ◌<◌, ◌≤◌, Bool, true, false, List, [], ◌∷◌, ◌++◌, map, length, get_or, take, drop, set, sym, ap, ◌∙◌, append_assoc, append-nil, arith}
+use Rattle.std.proofs.Common.{◌≡◌, ℕ, ◌+◌, ◌<◌, ◌≤◌, Bool, true, false, List, [], ◌∷◌, ◌++◌, map, length, get_or, take, drop, set, sym, ap, ap₂, ◌∙◌, append_assoc, append-nil, arith}
 use Rattle.std.proofs.lemmas.List.{length-append, length-map, length-take-le, map_push, take-append-drop}
 use Rattle.rules.specs.declared.rule.Rule.{Rule}
 use Rattle.rules.specs.Filled.{filled}
-use Rattle.rules.proofs.Filled.{filled_more}
+use Rattle.rules.specs.declared.letter.Model.{Model}
+use Rattle.rules.specs.declared.rule.Effect.{Effect}
+use Rattle.rules.specs.Models.{default, lead}
+use Rattle.rules.proofs.Filled.{filled_more, filled-front, filled_on}
+use Rattle.expressiveness.specs.Floors.{floor_rule, list_of}
 use Rattle.conversion.specs.Flags.{raised}
 use Rattle.conversion.proofs.Raised.{one_more, raised-no, raised-none, raised-yes}
 
@@ -40,3 +44,18 @@ module _ (rule : ℕ → Rule) (flags : List Bool) (at : ℕ) (slots : List Rule
 
     pub put-skip : get_or flags k false ≡ false → put k ≡ put (k + 1)
     put-skip e = ap (λ xs. filled (take at slots ++ map rule xs) slots) (sym (raised-no flags k e))
+
+-- the floor rules of the lead floors are put first, and those of the counter floors right after them: that is the list of these floors
+pub both-put : (n : ℕ) (m : Model) (leads counters : List ℕ) (slots one two : List Rule) (next : ℕ) (e d : Effect) → e ≡ lead m → d ≡ default m
+    → next ≡ 0 + length leads → one ≡ filled (take 0 slots ++ map (floor_rule n e) leads) slots
+    → two ≡ filled (take next one ++ map (floor_rule n d) counters) one → two ≡ filled (list_of n m leads counters) slots
+both-put n m leads counters slots one two next e d is-lead is-default at first last =
+    let front : List Rule = map (floor_rule n (lead m)) leads in
+    let back : List Rule = map (floor_rule n (default m)) counters in
+    let first-is : one ≡ filled front slots = first ∙ ap (λ x. filled (map (floor_rule n x) leads) slots) is-lead in
+    let long : length front ≡ next = length-map leads (floor_rule n (lead m)) ∙ omega arith in
+    let kept : take next one ≡ front = ap (take next) first-is ∙ filled-front front slots next long in
+    last
+    ∙ ap₂ (λ xs x. filled (xs ++ map (floor_rule n x) counters) one) kept is-default
+    ∙ ap (filled (front ++ back)) first-is
+    ∙ filled_on front slots back

@@ -2,13 +2,13 @@
 use Rattle.std.proofs.Common.{◌≡◌, ℕ, ◌<◌, Bool, true, false, not, ◌&&◌, ◌⊎◌, List, get_or, replicate, Decides, sym, refl, ap, ◌∙◌, subst, ap₂, inl, inr, ⊎_elim, arith}
 use Rattle.std.proofs.lemmas.Bool.{cases_Bool, cases_eq, false≢true}
 use Rattle.std.proofs.lemmas.Bool.Decides.{Decides-and, Decides-at, Decides-like, Decides-not}
-use Rattle.expressiveness.specs.Order.{CounterFloor, FirstGap, FirstStep, Gap, Hopeless, Least, Minimal, Step}
+use Rattle.expressiveness.specs.Order.{CounterFloor, FirstGap, FirstStep, Gap, Hopeless, Least, Minimal}
 use Rattle.expressiveness.proofs.Search.{least-like}
 use Rattle.conversion.specs.declared.order.Order.{Order}
 use Rattle.conversion.specs.declared.order.Side.{Side}
 use Rattle.conversion.specs.declared.order.Side.TheVariants.{Above, Below}
 use Rattle.conversion.specs.Flags.{Up}
-use Rattle.conversion.specs.Beyond.{Beyond, OverIn, SomeBeyond, Tells}
+use Rattle.conversion.specs.Beyond.{Beyond, OverIn, Tells}
 use Rattle.conversion.specs.Shapes.{AnyGap, AnyStep, FirstBeyond, Flagged, In, Lower, Middle, Unled}
 use Rattle.conversion.proofs.Links.{plain}
 use Rattle.conversion.proofs.Passes.{all-down}

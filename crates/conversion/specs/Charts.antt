@@ -1,8 +1,7 @@
 -- The chart of a policy, and which of its bytes are led. Only inner functions cite this.
-use Rattle.std.specs.Prelude.{◌≡◌, ℕ, ◌<◌, Bool, true, false, List, map, Some, None, Decides, Option, slice_index, slice_index_or}
+use Rattle.std.specs.Prelude.{◌≡◌, ℕ, ◌<◌, Bool, false, List, map, Some, None, Decides, Option, slice_index, slice_index_or}
 use Rattle.std.specs.List.{range_with_len}
 use Rattle.rules.specs.declared.rule.Effect.{Effect}
-use Rattle.rules.specs.declared.rule.Effect.TheVariants.{Permit, Deny}
 use Rattle.policies.specs.Policies.{Meaning}
 use Rattle.conversion.specs.Converts.{byte_of}
 

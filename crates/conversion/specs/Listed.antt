@@ -1,5 +1,5 @@
 -- What the last steps of a conversion answer. Only inner functions cite this.
-use Rattle.std.specs.Prelude.{◌≡◌, ℕ, ◌+◌, ◌<◌, ◌≤◌, Bool, List, length, Ok, Err, Result}
+use Rattle.std.specs.Prelude.{◌≡◌, ℕ, ◌<◌, ◌≤◌, Bool, List, length, Ok, Err, Result}
 use Rattle.rules.specs.declared.letter.Model.{Model as ModelOf}
 use Rattle.rules.specs.declared.rule.Rule.{Rule}
 use Rattle.rules.specs.Filled.{filled}
@@ -16,7 +16,7 @@ use Rattle.conversion.specs.Flags.{raised}
 -- The order of the requests, where it fits the policy.
 abbrev pub Fitted : ℕ → (ℕ → ℕ → Bool) → ℕ → Meaning → Result Order Unconverted → Type 0
 Fitted posts f n p (Ok o) = IsOrder posts f n o × (o.total ≡ p.requests)
-Fitted posts f n p (Err e) = (e ≡ Misfit) × (Fits posts n p → ⊥)
+Fitted posts f n p (Err e) = (e ≡ Misfit) × ((m : ModelOf) → Fits posts f n p m → ⊥)
 
 -- The list that the flags of its floors make.
 abbrev pub flagged_list : Order → ModelOf → FloorFlags → List Rule

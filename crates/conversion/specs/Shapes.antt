@@ -1,6 +1,6 @@
 -- What stands in the way of a list, and its floors, told from the flags of the led requests. Only inner functions cite this.
 use Rattle.std.specs.Prelude.{◌≡◌, ℕ, ◌<◌, Bool, true, false, cond, not, List, Ok, Err, Decides, Result, slice_index_or}
-use Rattle.expressiveness.specs.Order.{CounterFloor, FirstGap, FirstStep, Gap as IsGap, LeadFloor, Least, Minimal, Step as IsStep}
+use Rattle.expressiveness.specs.Order.{CounterFloor, FirstGap, FirstStep, Gap as IsGap, LeadFloor, Least, Step as IsStep}
 use Rattle.conversion.specs.declared.floors.FloorFlags.{FloorFlags}
 use Rattle.conversion.specs.declared.floors.GapAt.{GapAt}
 use Rattle.conversion.specs.declared.floors.StepAt.{StepAt}

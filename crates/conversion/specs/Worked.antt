@@ -1,6 +1,6 @@
 -- Worked cases of conversion.
 use Rattle.std.specs.Prelude.{◌≡◌, ℕ, ◌+◌, ◌≤◌, Bool, true, List, [], ◌∷◌, length, Ok, Err, Result, nat_eq, nat_le}
-use Rattle.std.specs.List.{AllByRecursion as All}
+use Rattle.std.specs.List.{AllByRecursion}
 use Rattle.ladders.specs.House.{house_at_least}
 use Rattle.ladders.specs.Rank.{rank_at_least}
 use Rattle.rules.specs.declared.letter.Letter.TheVariants.{Guarded}
@@ -89,4 +89,4 @@ worked =
 
 -- The table of worked cases holds.
 abbrev pub WorkedCases : Type 0
-WorkedCases = All Holds worked
+WorkedCases = AllByRecursion Holds worked

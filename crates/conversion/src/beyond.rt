@@ -1,6 +1,6 @@
 // Which requests have some of a set above them, or below them: told for all requests at once, by one pass over them for each condition and each
 // pair of posts.
-ghost use Rattle.std.specs.Prelude.{◌≡◌, ℕ, ◌<◌, ◌≤◌, length};
+ghost use Rattle.std.specs.Prelude.{◌≡◌, ◌<◌};
 ghost use Rattle.conversion.specs.Beyond.{Full, LinkOf, Passed, Sound, Tells, handed_on, upper_of};
 ghost use Rattle.conversion.specs.declared.beyond.Link.TheVariants.{Condition, Posts};
 

@@ -1,8 +1,5 @@
 // Conversion of a policy into a list of a model.
-ghost use Rattle.std.specs.Prelude.{◌≡◌, ◌≤◌, length, MatchOption, MatchResult};
-ghost use Rattle.rules.specs.Models.{default_overrides};
-ghost use Rattle.conversion.specs.Beyond.{IsOrder};
-ghost use Rattle.conversion.specs.Converts.{Converts, Fits};
+ghost use Rattle.conversion.specs.Converts.{Converts};
 ghost use Rattle.conversion.specs.Listed.{Fitted, Listed};
 ghost use Rattle.conversion.specs.Worked.{WorkedCases};
 

@@ -1,5 +1,5 @@
 // A flag for each request.
-ghost use Rattle.std.specs.Prelude.{◌≡◌, ℕ, ◌<◌, ◌≤◌, false, not, ◌&&◌, length, MatchOption, slice_index_or};
+ghost use Rattle.std.specs.Prelude.{◌≡◌, ℕ, ◌<◌, ◌≤◌, false, not, ◌&&◌, MatchOption, slice_index_or};
 ghost use Rattle.expressiveness.specs.Order.{Least};
 ghost use Rattle.conversion.specs.Flags.{Up};
 

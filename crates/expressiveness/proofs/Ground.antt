@@ -1,10 +1,10 @@
 -- A finite order that is decided, and the led requests in it: lowest requests, and the lists of floor rules over it.
-use Rattle.std.proofs.Common.{◌≡◌, ℕ, zero, suc, ◌<◌, Bool, true, ◌⊎◌, refl, inl, inr, arith}
+use Rattle.std.proofs.Common.{◌≡◌, ℕ, zero, suc, ◌<◌, Bool, true, refl, inl, inr, arith}
 use mathlib.Core.Bool.{Bool-discrete}
 use mathlib.Core.Logic.Dec
 use native.Mathlib.Decide.{ℕ_discrete}
 use Rattle.std.proofs.lemmas.Bool.{cases_eq}
-use Rattle.expressiveness.specs.Order.{Above, CounterFloor, LeadFloor, Minimal}
+use Rattle.expressiveness.specs.Order.{Above, CounterFloor, LeadFloor}
 use Rattle.expressiveness.proofs.Search.{below_suc, dec-like, imp?, some?}
 
 -- the rules with the floors F reach r

@@ -1,9 +1,8 @@
 -- Conversion of a policy into a list of a model, over every ladder.
-use Rattle.std.proofs.Common.{◌≡◌, ℕ, ◌<◌, Bool, true, false, cond, List, map, sym, refl, ◌∙◌, inl, inr}
+use Rattle.std.proofs.Common.{◌≡◌, ℕ, ◌<◌, Bool, true, false, cond, List, map, sym, refl, inl, inr}
 use mathlib.Core.Bool.{Bool-discrete}
 use mathlib.Core.Logic.Dec
 use mathlib.Core.List.Memᴰ
-use mathlib.Core.List.{Memᴰ}
 use native.Mathlib.Decide.{dec_lt}
 use Rattle.std.proofs.lemmas.Bool.{false≢true}
 use Rattle.ladders.specs.Ladders.{Lawful}
@@ -14,11 +13,11 @@ use Rattle.rules.specs.declared.rule.Rule.{Rule}
 use Rattle.rules.specs.Models.{default, default_overrides, lead}
 use Rattle.rules.specs.Requests.{request_at, request_total}
 use Rattle.policies.specs.Lists.{Applied}
-use Rattle.expressiveness.specs.Order.{CounterFloor, Gap, LeadFloor, Step}
+use Rattle.expressiveness.specs.Order.{Gap, LeadFloor, Step}
 use Rattle.expressiveness.specs.Floors.{Alike, Contains, Floors, HasRule, Led, Obstacle, Over, floor_rule, list_of}
 use Rattle.expressiveness.proofs.Search.{dec-like}
 use Rattle.expressiveness.proofs.Ground.{Agrees, Break, Counters, Ground, Leads, agrees_like, break?, counter-floor?, covers-counters, floors-agree, has-leads, lead-floor?, no-list}
-use Rattle.expressiveness.proofs.Rising.{in-rising, rising, rising-in, rising-like, rising-one}
+use Rattle.expressiveness.proofs.Rising.{in-rising, rising, rising-in, rising-one}
 use Rattle.expressiveness.proofs.Requests.{ground}
 use Rattle.expressiveness.proofs.Lists.{LeadDecides, by-floor, effect?, floor-in, has-floor, lead-verdict, opposite-not, reached-by, reached?, verdict-lead}
 

@@ -9,7 +9,6 @@ use lib.Bits.{bit_and, and_le_l, and_zero_r}
 use Rattle.std.proofs.lemmas.Nat.{div-mul-add, mod-mul-add, mod_below}
 use Rattle.std.proofs.lemmas.List.{length-map}
 use Rattle.std.proofs.lemmas.Bool.{false≢true}
-use Rattle.ladders.specs.Sets.{holds}
 use Rattle.ladders.proofs.Sets.{zero-holds}
 use Rattle.rules.specs.declared.letter.Letter.TheVariants.{Model}
 use Rattle.rules.specs.declared.letter.Model.{Model as ModelOf}
@@ -22,7 +21,7 @@ use Rattle.rules.specs.Models.{Verdict, default, default_overrides, lead, opposi
 use Rattle.rules.specs.Requests.{Includes, request_at}
 use Rattle.rules.specs.Rules.{Applies}
 use Rattle.policies.specs.Lists.{Applied, Counts}
-use Rattle.expressiveness.specs.Floors.{HasRule, IsFloorRule, Over, floor_rule, list_of}
+use Rattle.expressiveness.specs.Floors.{HasRule, Over, floor_rule, list_of}
 use Rattle.expressiveness.proofs.Search.{dec-like}
 use Rattle.expressiveness.proofs.Requests.{request-eta}
 

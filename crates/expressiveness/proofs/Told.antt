@@ -2,7 +2,7 @@
 use Rattle.std.proofs.Common.{◌≡◌, ℕ}
 use mathlib.Core.Logic.Dec
 use Rattle.expressiveness.specs.Order.{Above, FirstGap, FirstStep, Gap, Least, Step}
-use Rattle.expressiveness.proofs.Search.{dec-like, first, least-like, least-one, some?}
+use Rattle.expressiveness.proofs.Search.{dec-like, first, least-one, some?}
 use Rattle.expressiveness.proofs.Ground.{Ground, above?, some-above?, some-below?}
 
 module _ {N : ℕ} {◌⊒◌ : ℕ → ℕ → Type 0} {Led : ℕ → Type 0} (g : Ground N ◌⊒◌ Led) where

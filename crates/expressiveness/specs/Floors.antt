@@ -7,7 +7,7 @@ use Rattle.rules.specs.declared.rule.Effect.{Effect}
 use Rattle.rules.specs.declared.rule.Rule.{Rule}
 use Rattle.rules.specs.Models.{default, default_overrides, lead}
 use Rattle.rules.specs.Requests.{AtOrAbove, request_at, request_total}
-use Rattle.policies.specs.Lists.{Applied, Counts, ListDecides}
+use Rattle.policies.specs.Lists.{Applied, ListDecides}
 use Rattle.expressiveness.specs.Order.{CounterFloor, Gap, LeadFloor, Rising, Step}
 
 -- Request r is at or above request s, by their numbers with n conditions.

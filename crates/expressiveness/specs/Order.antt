@@ -1,5 +1,5 @@
 -- Gaps, steps and floors, over any order of the requests.
-use Rattle.std.specs.Prelude.{◌≡◌, ℕ, zero, suc, ◌<◌, List, [], ◌∷◌, ◌++◌, ◌≢◌}
+use Rattle.std.specs.Prelude.{ℕ, zero, suc, ◌<◌, List, [], ◌∷◌, ◌++◌, ◌≢◌}
 
 -- x is the least number with the property P.
 abbrev pub Least : (ℕ → Type 0) → ℕ → Type 0

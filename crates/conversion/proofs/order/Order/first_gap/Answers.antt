@@ -3,7 +3,7 @@ use Rattle.conversion.proofs.order.Order.first_gap.Goals as goal
 
 pub returns-in_err-middle : goal.returns-in_err-middle
 returns-in_err-middle c =
-    rw c.from-residual.ensures (no_gap c.args.self.now c.args.led.now c.args.middles.now c.requires c.in_err-middle.ensures)
+    rw c.from_residual.ensures (no_gap c.args.self.now c.args.led.now c.args.middles.now c.requires c.in_err-middle.ensures)
 
 pub returns-in_err-upper : goal.returns-in_err-upper
 returns-in_err-upper c =

@@ -3,7 +3,7 @@ use Rattle.conversion.proofs.order.Order.first_step.Goals as goal
 
 pub returns-in_err-lower : goal.returns-in_err-lower
 returns-in_err-lower c =
-    rw c.from-residual.ensures (no_step c.args.self.now c.args.led.now c.opposite-unled.result c.opposite-unled.ensures c.lowers.result c.lowers.ensures c.in_err-lower.ensures)
+    rw c.from_residual.ensures (no_step c.args.self.now c.args.led.now c.opposite-unled.result c.opposite-unled.ensures c.lowers.result c.lowers.ensures c.in_err-lower.ensures)
 
 pub returns-in_err-upper : goal.returns-in_err-upper
 returns-in_err-upper c =

@@ -1,4 +1,4 @@
-use Rattle.std.proofs.Common.{◌≡◌, ◌*◌, ◌%◌, ◌^◌, ◌≤◌, ap, ◌∙◌, arith}
+use Rattle.std.proofs.Common.{◌≡◌, ◌*◌, ◌%◌, ◌^◌, ap, ◌∙◌, arith}
 use Rattle.std.proofs.lemmas.Nat.{shl_whole}
 use Rattle.ladders.specs.Rows.{row_posts}
 use Rattle.ladders.specs.Copies.{held}
@@ -13,4 +13,8 @@ invariant_of-result g c =
     let laws = held c.of-rows.result.lawful in
     let whole : (c.count.result * 2 ^ n) % 2 ^ 64 ≡ request_total (row_posts rows) n =
     shl_whole c.count.result 4 n 64 (omega (arith, laws.few, c.count.ensures)) (omega arith) ∙ ap (λ k. k * 2 ^ n) c.count.ensures in
-    (c.if-conditions-gt9.false, (omega (arith, whole, at_most (row_posts rows) n laws.few c.if-conditions-gt9.false), (whole, tt)))
+    record {
+      few = c.if-conditions-gt9.false;
+      most = omega (arith, whole, at_most (row_posts rows) n laws.few c.if-conditions-gt9.false);
+      whole = whole;
+    }

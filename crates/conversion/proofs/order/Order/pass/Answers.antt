@@ -1,5 +1,4 @@
-use Rattle.std.proofs.Common.{◌≡◌, Bool, List, sym, ◌∙◌, subst, arith}
-use Rattle.conversion.specs.Beyond.{Passed}
+use Rattle.std.proofs.Common.{sym, ◌∙◌, arith}
 use Rattle.conversion.proofs.Passes.{passed-more, passed_none, passed-skip, upper-inside}
 use Rattle.conversion.proofs.order.Order.pass.Goals as goal
 use Rattle.conversion.proofs.order.Order.pass.Goals.{in-Some, in_default}

@@ -1,4 +1,4 @@
-use Rattle.std.proofs.Common.{◌≡◌, ℕ, ◌+◌, ◌<◌, length, set, ap, ◌∙◌, ap₂, arith, rules}
+use Rattle.std.proofs.Common.{◌<◌, length, set, ap, ◌∙◌, ap₂, arith, rules}
 use Rattle.std.proofs.lemmas.List.{length_push}
 use Rattle.expressiveness.specs.Floors.{floor_rule}
 use Rattle.conversion.specs.Flags.{raised}
