@@ -3,17 +3,16 @@
 # Instructions are counted by valgrind's callgrind, so the figures do not hang on how busy the machine is.
 # What reading costs is told by a file whose last line is at fault: all of it is read, and nothing is written. What writing costs is
 # the difference between that file and the one without its last line.
-# Needs valgrind, and rt where the program is not built yet.
+# Needs valgrind and rt.
 set -eu
 
 CDPATH= cd -- "$(dirname -- "$0")/.."
-program=target/bin/yulmekesh
+program=crates/yulmekesh/out/yulmekesh
+# rt run proves and links the program where something changed, and then runs it, here on no input.
+echo 'bench: proving and building the program, if it is not yet' >&2
+(cd crates/yulmekesh && rt run >&2 </dev/null)
 if [ ! -x "$program" ]; then
-    echo 'bench: proving and building the program first' >&2
-    rt check yulmekesh >&2 </dev/null
-fi
-if [ ! -x "$program" ]; then
-    echo "bench: $program is missing though all is proved: remove the folder target and run again" >&2
+    echo "bench: $program is missing though all is proved: remove the folders crates/*/out and run again" >&2
     exit 1
 fi
 if ! command -v valgrind >/dev/null 2>&1; then
