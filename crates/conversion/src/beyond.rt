@@ -10,7 +10,7 @@ use ladders::{Ladder, has};
 
 // What makes one request right above another: they differ in one condition, or in their posts alone, the upper and the lower.
 #[derive(Clone, Copy)]
-pub enum Link {
+pub(crate) enum Link {
     Condition(u8),
     Posts(usize, usize),
 }
@@ -91,7 +91,7 @@ impl Order {
     }
 
     // Of each request whether some of a set lies on that side of it.
-    pub fn beyond(&self, side: Side, members: &Flags) -> Flags
+    pub(crate) fn beyond(&self, side: Side, members: &Flags) -> Flags
         ensures { Tells self.now side members.now result }
     {
         let mut marks = [false; MOST];

@@ -28,7 +28,7 @@ fn byte_for(decision: Option<Effect>) -> u8
 }
 
 // Writes what a policy decides, a byte for each request.
-pub fn chart<P: Policy>(policy: &P, total: usize, work: &mut [u8])
+pub(crate) fn chart<P: Policy>(policy: &P, total: usize, work: &mut [u8])
     requires all { total ≡ (P.meaning policy.now).requests }
     requires room { total ≤ length work.old }
     ensures { work.new ≡ filled (chart_of (P.meaning policy.now) total) work.old }
@@ -39,7 +39,7 @@ pub fn chart<P: Policy>(policy: &P, total: usize, work: &mut [u8])
 }
 
 // The requests that have an effect in a chart.
-pub fn led_in(work: &[u8], total: usize, effect: Effect) -> Flags
+pub(crate) fn led_in(work: &[u8], total: usize, effect: Effect) -> Flags
     requires { (total ≤ 4096) × (total ≤ length work.now) }
     ensures { BytesAre (byte_of effect) work.now total result }
 {

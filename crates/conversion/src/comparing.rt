@@ -9,7 +9,7 @@ use rules::Request;
 
 impl Order {
     // The requests of a ladder and so many conditions; none with more than nine conditions.
-    pub fn of<L: Ladder>(ladder: &L, conditions: u8) -> Option<Order>
+    pub(crate) fn of<L: Ladder>(ladder: &L, conditions: u8) -> Option<Order>
         ensures { MatchOption result (9 < conditions) (IsOrder (L.posts ladder.now) (L.at_least ladder.now) conditions) }
     {
         if conditions > 9 {
@@ -25,7 +25,7 @@ impl Order {
     }
 
     // The request of a number.
-    pub fn request(&self, number: usize) -> Request
+    pub(crate) fn request(&self, number: usize) -> Request
         requires { number < self.now.total }
         ensures { result ≡ request_at self.now.conditions number }
     {
@@ -42,7 +42,7 @@ impl Order {
     }
 
     // Whether request y lies on that side of request x.
-    pub fn is_beyond(&self, side: Side, x: usize, y: usize) -> bool
+    pub(crate) fn is_beyond(&self, side: Side, x: usize, y: usize) -> bool
         requires { (x < self.now.total) × (y < self.now.total) }
         ensures { Decides result (Beyond self.now side x y) }
     {

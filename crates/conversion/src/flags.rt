@@ -4,12 +4,12 @@ ghost use Rattle.expressiveness.specs.Order.{Least};
 ghost use Rattle.conversion.specs.Flags.{Up};
 
 // The most requests that there are.
-pub const MOST: usize = 4096;
+pub(crate) const MOST: usize = 4096;
 
-pub type Flags = [bool; MOST];
+pub(crate) type Flags = [bool; MOST];
 
 // The flags that are up in both.
-pub fn both(a: &Flags, b: &Flags) -> Flags
+pub(crate) fn both(a: &Flags, b: &Flags) -> Flags
     ensures { (k : ℕ) → k < 4096 → slice_index_or result k false ≡ (slice_index_or a.now k false && slice_index_or b.now k false) }
 {
     let mut r = [false; MOST];
@@ -20,7 +20,7 @@ pub fn both(a: &Flags, b: &Flags) -> Flags
 }
 
 // The flags that are not up.
-pub fn opposite(a: &Flags) -> Flags
+pub(crate) fn opposite(a: &Flags) -> Flags
     ensures { (k : ℕ) → k < 4096 → slice_index_or result k false ≡ not (slice_index_or a.now k false) }
 {
     let mut r = [false; MOST];
@@ -31,7 +31,7 @@ pub fn opposite(a: &Flags) -> Flags
 }
 
 // The first flag that is up, of so many.
-pub fn first_up(flags: &Flags, total: usize) -> Option<usize>
+pub(crate) fn first_up(flags: &Flags, total: usize) -> Option<usize>
     requires { total ≤ 4096 }
     ensures { MatchOption result ((x : ℕ) → x < total → Up flags.now x → ⊥) (λ x. (x < total) × Least (Up flags.now) x) }
 {

@@ -14,9 +14,9 @@ use rules::Model;
 
 // The floors of the lead rules and of the counter rules, a flag for each request.
 #[derive(Clone, Copy)]
-pub struct FloorFlags {
-    pub lead: Flags,
-    pub counter: Flags,
+pub(crate) struct FloorFlags {
+    pub(crate) lead: Flags,
+    pub(crate) counter: Flags,
 }
 
 // Three requests one above the other, of which the middle one is not led and the others are.
@@ -149,7 +149,7 @@ impl Order {
     }
 
     // The floors of the defined list of a model, or what stands in its way.
-    pub fn floors(&self, model: Model, led: &Flags) -> Result<FloorFlags, Unconverted>
+    pub(crate) fn floors(&self, model: Model, led: &Flags) -> Result<FloorFlags, Unconverted>
         ensures { Shaped self.now (default_overrides model) led.now result }
     {
         if model.default_overrides() {

@@ -9,7 +9,7 @@ use crate::order::Order;
 use rules::{Effect, Rule};
 
 // How many of the first flags are up.
-pub fn count(flags: &Flags, total: usize) -> usize
+pub(crate) fn count(flags: &Flags, total: usize) -> usize
     requires { total ≤ 4096 }
     ensures { result ≡ length (raised flags.now total) }
 {
@@ -39,7 +39,13 @@ impl Order {
     }
 
     // Writes the rules of the floors that are flagged, from a slot on, and tells the slot after them.
-    pub fn put_rules(&self, effect: Effect, floors: &Flags, at: usize, slots: &mut [Rule]) -> usize
+    pub(crate) fn put_rules(
+        &self,
+        effect: Effect,
+        floors: &Flags,
+        at: usize,
+        slots: &mut [Rule],
+    ) -> usize
         requires { at + length (raised floors.now self.now.total) ≤ length slots.old }
         ensures next { result ≡ at + length (raised floors.now self.now.total) }
         ensures list { slots.new ≡ filled (take at slots.old ++ map (floor_rule self.now.conditions effect) (raised floors.now self.now.total)) slots.old }

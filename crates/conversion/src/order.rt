@@ -7,10 +7,10 @@ use ladders::LadderRows;
 
 // The ladder is kept as a copy of its rows.
 #[derive(Clone, Copy)]
-pub struct Order {
-    pub ladder: LadderRows,
-    pub conditions: u8,
-    pub total: usize,
+pub(crate) struct Order {
+    pub(crate) ladder: LadderRows,
+    pub(crate) conditions: u8,
+    pub(crate) total: usize,
     ghost few: { conditions ≤ 9 },
     ghost most: { total ≤ 4096 },
     ghost whole: { total ≡ request_total (row_posts ladder.rows) conditions },
@@ -18,7 +18,7 @@ pub struct Order {
 
 // Which side of a request is looked at.
 #[derive(Clone, Copy)]
-pub enum Side {
+pub(crate) enum Side {
     Above,
     Below,
 }
