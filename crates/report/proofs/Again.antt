@@ -1,5 +1,5 @@
 -- A list that was read is lawful, and what is written of it is the text of that list.
-use Rattle.std.proofs.Common.{◌≡◌, ℕ, zero, suc, ◌-◌, ◌<◌, ◌≤◌, List, [], ◌∷◌, length, take, drop, Some, Ok, Err, Result, ap, ◌∙◌, subst, ⊎_elim, arith}
+use Rattle.std.proofs.Common.{◌≡◌, ℕ, zero, suc, ◌<◌, ◌≤◌, List, [], ◌∷◌, length, take, drop, Some, Ok, Err, Result, ap, ◌∙◌, subst, ⊎_elim, arith}
 use Rattle.std.specs.List.{slice_get, AllByRecursion}
 use Rattle.std.proofs.lemmas.List.{take_at}
 use Rattle.rules.specs.declared.rule.Rule.{Rule}
@@ -29,11 +29,11 @@ module _ (input : List ℕ) (slots slots' : List Rule) (text text' : List ℕ) (
   ts = read.1.0
 
   -- the slots that are written
-  taken : take (l.rules - 0) slots' ≡ ts
+  taken : take l.rules slots' ≡ ts
   unfolding ts
   taken =
-      ap (λ xs. take (l.rules - 0) xs) read.1.1.1.1.1
-      ∙ take_at read.1.0 (drop (length read.1.0) slots) (l.rules - 0) (let e = read.1.1.1.0 in omega arith)
+      ap (λ xs. take l.rules xs) read.1.1.1.1.1
+      ∙ take_at read.1.0 (drop (length read.1.0) slots) l.rules (let e = read.1.1.1.0 in omega arith)
 
   lawful : LawfulList 8 l.letter l.conditions ts
   unfolding ts
@@ -58,5 +58,5 @@ module _ (input : List ℕ) (slots slots' : List Rule) (text text' : List ℕ) (
       (λ h. h.1.1.1.1 (nth-all (Sayable (grammar l.letter l.conditions 8)) ts k h.1.1.0 lawful.1 h.1.1.1.0)) first
   answered (Err (NoRoom needed)) (_, (e, (less, left))) = (l.letter, (l.conditions, (ts, (held, (e, (less, left))))))
 
-  pub tidied : (r : Result ℕ Unwritten) → Writes 8 l.letter l.conditions (take (l.rules - 0) slots') text r text' → Tidied input slots text (in_tidy r) slots' text'
+  pub tidied : (r : Result ℕ Unwritten) → Writes 8 l.letter l.conditions (take l.rules slots') text r text' → Tidied input slots text (in_tidy r) slots' text'
   tidied r w = answered r (subst (λ us. Writes 8 l.letter l.conditions us text r text') taken w)

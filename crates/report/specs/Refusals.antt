@@ -1,5 +1,6 @@
 -- The number and the figures of every refusal of an input.
-use Rattle.std.specs.Prelude.{ℕ, List, [], ◌∷◌}
+use Rattle.std.specs.Prelude.{ℕ, List, [], ◌∷◌, ◌++◌, decimal}
+use Rattle.std.specs.List.{flat_map}
 use Rattle.rulefile.specs.Faults.{number, kind_of, place_of}
 use Rattle.writing.specs.Refusals.{number_of as unwritten_number, figure_of}
 use Rattle.report.specs.declared.refusal.Refusal.{Refusal}
@@ -15,3 +16,7 @@ abbrev pub figures_of : Refusal → List ℕ
 figures_of (File f) = (place_of f).line ∷ ((place_of f).offset ∷ [])
 figures_of (Text u) = figure_of u ∷ []
 figures_of TooLong = []
+
+-- A refusal as text: its number in digits, and then each figure in digits after a space.
+abbrev pub refusal_text : Refusal → List ℕ
+refusal_text r = decimal (number_of r) ++ flat_map (λ n. 32 ∷ decimal n) (figures_of r)

@@ -1,9 +1,12 @@
 // Why an input is refused.
-ghost use Rattle.std.specs.Prelude.{◌≡◌, length, take};
-ghost use Rattle.report.specs.Refusals.{number_of, figures_of};
+ghost use Rattle.std.specs.Prelude.{◌≡◌, Some};
+ghost use Rattle.report.specs.Refusals.{number_of, figures_of, refusal_text};
 ghost use Rattle.report.specs.declared.refusal.Refusal.TheVariants.{File, Text};
 
+use arrayvec::ArrayVec;
+use lines::Place;
 use rulefile::FileFault;
+use std::fmt::{self, Display};
 use writing::Unwritten;
 
 #[derive(Clone, Copy, Debug, PartialEq, Eq)]
@@ -44,18 +47,35 @@ impl Refusal {
         }
     }
 
-    // Its figures, and how many they are: the line and the offset of a fault, or the figure of a list that is not written.
-    pub fn figures(&self) -> ([u128; 2], usize)
-        ensures figures { take result.1 result.0 ≡ figures_of self.now }
-        ensures count { result.1 ≡ length (figures_of self.now) }
+    // Its figures: the line and the offset of a fault, or the figure of a list that is not written.
+    pub fn figures(&self) -> ArrayVec<u128, 2>
+        ensures { result.items ≡ figures_of self.now }
     {
+        let mut figures = ArrayVec::new();
         match self {
             Refusal::File(fault) => {
-                let place = fault.place();
-                ([place.line as u128, place.offset as u128], 2)
+                let Place { line, offset } = fault.place();
+                figures.push(line as u128);
+                figures.push(offset as u128);
             }
-            Refusal::Text(unwritten) => ([unwritten.figure(), 0], 1),
-            Refusal::TooLong => ([0; 2], 0),
+            Refusal::Text(unwritten) => figures.push(unwritten.figure()),
+            Refusal::TooLong => {}
         }
+        figures
+    }
+}
+
+// The number, and then the figures, each after a space.
+impl Display for Refusal {
+    ghost output = { λ r. Some (refusal_text r) };
+
+    fn fmt<W: fmt::Write>(&self, f: &mut fmt::Formatter<W>) -> fmt::Result {
+        let number = self.number();
+        write!(f, "{number}")?;
+        let figures = self.figures();
+        for figure in figures.as_slice() {
+            write!(f, " {figure}")?;
+        }
+        Ok(())
     }
 }

@@ -21,8 +21,6 @@ pub fn tidy(input: &[u8], slots: &mut [Rule], text: &mut [u8]) -> Result<usize, 
         return Err(Refusal::TooLong);
     }
     let list = read(input, &House, slots)?;
-    let taken = list.rules;
-    let rules = &slots[0..taken];
-    let count = write(list.letter, list.conditions, &House, rules, text)?;
-    Ok(count)
+    let rules = &slots[..list.rules];
+    Ok(write(list.letter, list.conditions, &House, rules, text)?)
 }

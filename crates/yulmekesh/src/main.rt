@@ -1,7 +1,7 @@
 // Reads a rule file from standard input, and prints it as lists are written, or why it is refused.
 #![tactic(auto)]
 
-use report::{Refusal, tidy};
+use report::tidy;
 use rules::{Effect, Rule};
 use std::io::{Read, Write};
 
@@ -13,17 +13,6 @@ const SLOTS: usize = 4096;
 
 // How many bytes a text may have.
 const ROOM: usize = 65536;
-
-// The line that tells why the input is refused: the number and its figures.
-fn print_refusal(rt: &impl Print, refusal: Refusal) -> std::io::Result<()> {
-    let number = refusal.number();
-    let (figures, count) = refusal.figures();
-    print!(rt; "refused {number}")?;
-    for figure in figures.iter().take(count) {
-        print!(rt; " {figure}")?;
-    }
-    println!(rt; "")
-}
 
 fn run(rt: &HostRuntime) -> anyhow::Result<()> {
     let heap = rt.alloc();
@@ -40,7 +29,7 @@ fn run(rt: &HostRuntime) -> anyhow::Result<()> {
     let mut text = vec![in heap; 0u8; ROOM]?;
     match tidy(&input, &mut slots, &mut text) {
         Ok(count) => rt.stdout().write_all(&text[0..count])?,
-        Err(refusal) => print_refusal(rt, refusal)?,
+        Err(refusal) => println!(rt; "refused {refusal}")?,
     }
     Ok(())
 }
