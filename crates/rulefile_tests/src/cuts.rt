@@ -65,7 +65,7 @@ fn cut_at_every_byte(rt: HostRuntime) {
         assert_eq!(rt; signs.len(), file.len().saturating_add(1));
         for (k, sign) in signs.iter().enumerate() {
             assert!(rt; k <= file.len());
-            let cut = &file[0..k];
+            let cut = &file[..k];
             let mut slots = [OLD_RULE; SLOTS];
             let found = read_on(8, cut, &mut slots);
             assert_eq!(rt; found, meant(*sign, k, case), "file {cut:?}");

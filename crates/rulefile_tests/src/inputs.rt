@@ -1,5 +1,5 @@
 // Whole inputs: how many rules and how many bytes are read.
-use crate::support::{OLD, OLD_BYTE, OLD_RULE, Shape, answer, check_slots, check_text, shape};
+use crate::support::{OLD_BYTE, OLD_RULE, Shape, answer, check_slots, check_text};
 use ladders::House;
 use report::{Refusal, tidy};
 use rulefile::read;
@@ -8,13 +8,13 @@ use std::alloc::{AllocError, Global};
 use std::process::Abort;
 use std::test::Fail;
 
-const A: Shape = ('+', 1, 0, 0, 0);
+const A: Shape = Shape('+', 1, 0, 0, 0);
 
 // How many rules a list may have.
 const SLOTS: usize = 4096;
 
-// What a whole input is answered: the text; or a number and the figures, with their count.
-type Told = Result<&'static [u8], (u8, [u128; 2], usize)>;
+// What a whole input is answered: the text; or a number and the figures.
+type Told = Result<&'static [u8], (u8, &'static [u128])>;
 
 // Tidies into the first bytes only, and not into more than there are.
 fn tidy_into(
@@ -24,7 +24,7 @@ fn tidy_into(
     text: &mut [u8],
 ) -> Result<usize, Refusal> {
     let lent = room.min(text.len());
-    tidy(input, slots, &mut text[0..lent])
+    tidy(input, slots, &mut text[..lent])
 }
 
 // Tidies the input with room for so many bytes; the bytes after the text, and all of them after a refusal, stay.
@@ -43,8 +43,12 @@ fn check_tidy(
             Ok(())
         }
         (Err(refusal), Err(told)) => {
-            let (figures, count) = refusal.figures();
-            assert_eq!(rt; (refusal.number(), figures, count), told, "input {input:?}");
+            let figures = refusal.figures();
+            assert_eq!(rt;
+                (refusal.number(), figures.as_slice()),
+                told,
+                "input {input:?}"
+            );
             check_text(rt, &text, &[]);
             Ok(())
         }
@@ -62,9 +66,9 @@ fn many_rules(heap: Global, count: usize) -> Result<Vec<u8>, AllocError> {
     Ok(file)
 }
 
-fn check_all(rt: &impl Abort, slots: &[Rule], due: Shape) {
+fn check_all(rt: &impl Abort, slots: &[Rule], due: Rule) {
     for slot in slots {
-        assert_eq!(rt; shape(*slot), due);
+        assert_eq!(rt; *slot, due);
     }
 }
 
@@ -83,8 +87,8 @@ fn most_rules(rt: HostRuntime) -> Result<(), Fail> {
         assert_eq!(rt; answer(read(&file, &House, &mut slots)), due);
         let taken = count.min(SLOTS);
         assert!(rt; slots.len() == SLOTS);
-        check_all(&rt, &slots[0..taken], A);
-        check_all(&rt, &slots[taken..], OLD);
+        check_all(&rt, &slots[..taken], A.into());
+        check_all(&rt, &slots[taken..], OLD_RULE);
     }
     let mut slots = vec![in heap; OLD_RULE; SLOTS]?;
     let file = many_rules(heap, 4096)?;
@@ -94,9 +98,9 @@ fn most_rules(rt: HostRuntime) -> Result<(), Fail> {
         Err(_) => return Err(Fail::new("4,096 rules are refused")),
     }
     assert!(rt; text.as_slice() == file.as_slice());
-    check_tidy(&rt, &file, &mut slots, 64, Err((8, [16388, 0], 1)))?;
+    check_tidy(&rt, &file, &mut slots, 64, Err((8, &[16388])))?;
     let file = many_rules(heap, 4097)?;
-    check_tidy(&rt, &file, &mut slots, 64, Err((7, [4098, 16388], 2)))
+    check_tidy(&rt, &file, &mut slots, 64, Err((7, &[4098, 16388])))
 }
 
 // How an input begins, the byte that fills it, its length but for the last byte, and the last byte; then the answer, and the rules
@@ -106,7 +110,7 @@ type Case = (&'static [u8], u8, usize, u8, Told, &'static [Shape]);
 const LONG: [Case; 9] = [
     (b"G 1\n+ a\n#", b'x', 32766, b'x', Ok(b"G 1\n+ a\n"), &[A]),
     (b"G 1\n+ a\n#", b'x', 32767, b'x', Ok(b"G 1\n+ a\n"), &[A]),
-    (b"G 1\n+ a\n#", b'x', 32768, b'x', Err((10, [0, 0], 0)), &[]),
+    (b"G 1\n+ a\n#", b'x', 32768, b'x', Err((10, &[])), &[]),
     (b"G 1\n+ a\n", b'\n', 32767, b'\n', Ok(b"G 1\n+ a\n"), &[A]),
     (
         b"G 1\n+ a\n",
@@ -114,26 +118,19 @@ const LONG: [Case; 9] = [
         32767,
         b'+',
         Ok(b"G 1\n+ a\n+\n"),
-        &[A, ('+', 0, 0, 0, 0)],
+        &[A, Shape('+', 0, 0, 0, 0)],
     ),
     (
         b"G 1\n+ a\n",
         b'\n',
         32767,
         b'x',
-        Err((2, [32762, 32767], 2)),
+        Err((2, &[32762, 32767])),
         &[A],
     ),
-    (
-        b"G 1\n+ a\n",
-        b'\n',
-        32768,
-        b'\n',
-        Err((10, [0, 0], 0)),
-        &[],
-    ),
-    (b"x", b'x', 32767, b'x', Err((1, [1, 0], 2)), &[]),
-    (b"x", b'x', 40000, b'x', Err((10, [0, 0], 0)), &[]),
+    (b"G 1\n+ a\n", b'\n', 32768, b'\n', Err((10, &[])), &[]),
+    (b"x", b'x', 32767, b'x', Err((1, &[1, 0])), &[]),
+    (b"x", b'x', 40000, b'x', Err((10, &[])), &[]),
 ];
 
 #[test]
@@ -141,9 +138,7 @@ fn longest_input(rt: HostRuntime) -> Result<(), Fail> {
     for (start, fill, len, last, due, rules) in LONG {
         let mut input = Vec::new(rt.alloc());
         input.extend_from_slice(start)?;
-        for _ in start.len()..len {
-            input.push(fill)?;
-        }
+        input.resize(len, fill)?;
         input.push(last)?;
         let mut slots = [OLD_RULE; 4];
         check_tidy(&rt, &input, &mut slots, 64, due)?;
@@ -154,8 +149,8 @@ fn longest_input(rt: HostRuntime) -> Result<(), Fail> {
 
 // An input, how many slots and how many bytes are lent, and the answer.
 const SHORT: [(&[u8], usize, usize, Told); 19] = [
-    (b"", 4, 64, Err((1, [1, 0], 2))),
-    (b"\n", 4, 64, Err((1, [1, 0], 2))),
+    (b"", 4, 64, Err((1, &[1, 0]))),
+    (b"\n", 4, 64, Err((1, &[1, 0]))),
     (b"G 1", 4, 64, Ok(b"G 1\n")),
     (b"G 1\n", 4, 64, Ok(b"G 1\n")),
     (b"G 1\n\n", 0, 64, Ok(b"G 1\n")),
@@ -169,15 +164,15 @@ const SHORT: [(&[u8], usize, usize, Told); 19] = [
         Ok(b"G 3\n+ 3 !5 !6 !a b !c\n"),
     ),
     (b"G 1\n# x\n+ 0 !a", 4, 9, Ok(b"G 1\n+ !a\n")),
-    (b"G 1\n# x\n+ 0 !a", 4, 8, Err((8, [9, 0], 1))),
-    (b"G 1", 4, 3, Err((8, [4, 0], 1))),
-    (b"G 1\n#\nx", 4, 64, Err((2, [3, 6], 2))),
-    (b"G 1\n+ ", 4, 64, Err((3, [2, 6], 2))),
-    (b"G 1\n+ 7 b", 4, 0, Err((4, [2, 8], 2))),
-    (b"G 1\n+ 3 !3", 4, 64, Err((5, [2, 9], 2))),
-    (b"A 1\n+ !7", 4, 64, Err((6, [2, 6], 2))),
-    (b"G 1\n+", 0, 64, Err((7, [2, 4], 2))),
-    (b"G 1\n+ a\n+ a\n+ x", 2, 64, Err((7, [4, 12], 2))),
+    (b"G 1\n# x\n+ 0 !a", 4, 8, Err((8, &[9]))),
+    (b"G 1", 4, 3, Err((8, &[4]))),
+    (b"G 1\n#\nx", 4, 64, Err((2, &[3, 6]))),
+    (b"G 1\n+ ", 4, 64, Err((3, &[2, 6]))),
+    (b"G 1\n+ 7 b", 4, 0, Err((4, &[2, 8]))),
+    (b"G 1\n+ 3 !3", 4, 64, Err((5, &[2, 9]))),
+    (b"A 1\n+ !7", 4, 64, Err((6, &[2, 6]))),
+    (b"G 1\n+", 0, 64, Err((7, &[2, 4]))),
+    (b"G 1\n+ a\n+ a\n+ x", 2, 64, Err((7, &[4, 12]))),
 ];
 
 #[test]
@@ -185,7 +180,7 @@ fn short_inputs(rt: HostRuntime) -> Result<(), Fail> {
     for (input, slots, room, due) in SHORT {
         assert!(rt; slots <= 4);
         let mut held = [OLD_RULE; 4];
-        check_tidy(&rt, input, &mut held[0..slots], room, due)?;
+        check_tidy(&rt, input, &mut held[..slots], room, due)?;
     }
     Ok(())
 }

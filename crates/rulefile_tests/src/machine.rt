@@ -1,5 +1,5 @@
 // A second reader, apart from the first: a machine that takes the whole file byte by byte, and knows of no lines.
-use crate::support::{Answer, OLD_RULE};
+use crate::support::{Answer, OLD_RULE, Shape};
 use rules::{Effect, Rule};
 
 // The most slots that the machine has.
@@ -19,6 +19,32 @@ enum Due {
     BarredName,
 }
 
+// What stands at a byte in place of what is due.
+#[derive(Clone, Copy)]
+enum Fault {
+    WrongHead,
+    NoMark,
+    NotDue,
+    OutOfRange,
+    Repeated,
+    NotAllowed,
+    NoSlot,
+}
+
+impl Fault {
+    fn number(self) -> u8 {
+        match self {
+            Fault::WrongHead => 1,
+            Fault::NoMark => 2,
+            Fault::NotDue => 3,
+            Fault::OutOfRange => 4,
+            Fault::Repeated => 5,
+            Fault::NotAllowed => 6,
+            Fault::NoSlot => 7,
+        }
+    }
+}
+
 #[derive(Clone, Copy)]
 struct Machine {
     due: Due,
@@ -34,167 +60,151 @@ struct Machine {
     slots: [Rule; SLOTS],
 }
 
-// A byte of line 1.
-fn take_head(m: Machine, b: u8) -> Result<Machine, u8> {
-    match (m.due, b as char) {
-        (Due::Letter, 'A'..='D' | 'G') => Ok(Machine {
-            due: Due::Space,
-            letter: b,
-            ..m
-        }),
-        (Due::Space, ' ') => Ok(Machine {
-            due: Due::Figure,
-            ..m
-        }),
-        (Due::Figure, '0'..='9') => Ok(Machine {
-            due: Due::HeadEnd,
-            conditions: b.wrapping_sub(48),
-            ..m
-        }),
-        (Due::HeadEnd, '\n') => Ok(Machine {
-            due: Due::Mark,
-            ..m
-        }),
-        _ => Err(1),
-    }
-}
+// The machine answers itself as it is after the byte, or the fault that stands there.
+type Taken = Result<Machine, Fault>;
 
-// The first byte of a later line.
-fn take_mark(m: Machine, b: u8) -> Result<Machine, u8> {
-    let effect = match b as char {
-        '\n' => return Ok(m),
-        '#' => {
-            return Ok(Machine {
-                due: Due::Comment,
-                ..m
-            });
+impl Machine {
+    fn new(posts: usize, room: usize) -> Machine {
+        Machine {
+            due: Due::Letter,
+            letter: 0,
+            conditions: 0,
+            posts,
+            room,
+            rule: OLD_RULE,
+            had: [false; 256],
+            floored: false,
+            count: 0,
+            slots: [OLD_RULE; SLOTS],
         }
-        '+' => Effect::Permit,
-        '-' if m.letter == b'G' => return Err(6),
-        '-' => Effect::Deny,
-        _ => return Err(2),
-    };
-    if m.count >= m.room {
-        return Err(7);
     }
-    let rule = Rule {
-        effect,
-        needed: 0,
-        barred: 0,
-        floor: 0,
-        barred_posts: 0,
-    };
-    Ok(Machine {
-        due: Due::Item,
-        rule,
-        had: [false; 256],
-        floored: false,
-        ..m
-    })
-}
 
-// The line ends, and its rule takes a slot.
-fn keep_rule(m: Machine) -> Machine {
-    let mut next = m;
-    next.due = Due::Mark;
-    if next.count < SLOTS {
-        next.slots[next.count] = m.rule;
-        next.count += 1;
+    // Something else is due next.
+    fn until(self, due: Due) -> Machine {
+        Machine { due, ..self }
     }
-    next
-}
 
-// A name, plain or barred.
-fn take_name(m: Machine, b: u8, barred: bool) -> Result<Machine, u8> {
-    let digit = match b as char {
-        'a'..='i' => false,
-        '0'..='7' => true,
-        _ => return Err(3),
-    };
-    let number = b.wrapping_sub(if digit { 48 } else { 97 });
-    let exists = if digit {
-        (number as usize) < m.posts
-    } else {
-        number < m.conditions
-    };
-    if !exists {
-        return Err(4);
+    // A byte of line 1.
+    fn take_head(self, b: u8) -> Taken {
+        match (self.due, b as char) {
+            (Due::Letter, 'A'..='D' | 'G') => Ok(Machine {
+                due: Due::Space,
+                letter: b,
+                ..self
+            }),
+            (Due::Space, ' ') => Ok(self.until(Due::Figure)),
+            (Due::Figure, '0'..='9') => Ok(Machine {
+                due: Due::HeadEnd,
+                conditions: b.wrapping_sub(48),
+                ..self
+            }),
+            (Due::HeadEnd, '\n') => Ok(self.until(Due::Mark)),
+            _ => Err(Fault::WrongHead),
+        }
     }
-    let floor = digit && !barred;
-    if m.had[b as usize] || floor && m.floored {
-        return Err(5);
-    }
-    let mut next = m;
-    next.due = Due::Item;
-    next.had[b as usize] = true;
-    next.floored = m.floored || floor;
-    let rule = &mut next.rule;
-    match (digit, barred) {
-        (true, true) => rule.barred_posts |= 1u8.wrapping_shl(number as u32),
-        (true, false) => rule.floor = number,
-        (false, true) => rule.barred |= 1u16.wrapping_shl(number as u32),
-        (false, false) => rule.needed |= 1u16.wrapping_shl(number as u32),
-    }
-    Ok(next)
-}
 
-// The next byte, or the number of the fault that stands at it.
-fn take(m: Machine, b: u8) -> Result<Machine, u8> {
-    match (m.due, b as char) {
-        (Due::Letter | Due::Space | Due::Figure | Due::HeadEnd, _) => take_head(m, b),
-        (Due::Mark, _) => take_mark(m, b),
-        (Due::Comment, '\n') => Ok(Machine {
-            due: Due::Mark,
-            ..m
-        }),
-        (Due::Comment, _) => Ok(m),
-        (Due::Item, '\n') => Ok(keep_rule(m)),
-        (Due::Item, ' ') => Ok(Machine {
-            due: Due::Name,
-            ..m
-        }),
-        (Due::Item, _) => Err(3),
-        (Due::Name, '!') if m.letter != b'G' => Err(6),
-        (Due::Name, '!') => Ok(Machine {
-            due: Due::BarredName,
-            ..m
-        }),
-        (Due::Name, _) => take_name(m, b, false),
-        (Due::BarredName, _) => take_name(m, b, true),
+    // The first byte of a later line.
+    fn take_mark(self, b: u8) -> Taken {
+        let effect = match b as char {
+            '\n' => return Ok(self),
+            '#' => return Ok(self.until(Due::Comment)),
+            '+' => Effect::Permit,
+            '-' if self.letter == b'G' => return Err(Fault::NotAllowed),
+            '-' => Effect::Deny,
+            _ => return Err(Fault::NoMark),
+        };
+        if self.count >= self.room {
+            return Err(Fault::NoSlot);
+        }
+        let mark = if effect == Effect::Permit { '+' } else { '-' };
+        Ok(Machine {
+            due: Due::Item,
+            rule: Shape(mark, 0, 0, 0, 0).into(),
+            had: [false; 256],
+            floored: false,
+            ..self
+        })
+    }
+
+    // The line ends, and its rule takes a slot.
+    fn keep_rule(self) -> Machine {
+        let mut next = self.until(Due::Mark);
+        if let Some(slot) = next.slots.get_mut(self.count) {
+            *slot = self.rule;
+            next.count = self.count.saturating_add(1);
+        }
+        next
+    }
+
+    // A name, plain or barred.
+    fn take_name(self, b: u8, barred: bool) -> Taken {
+        let digit = match b as char {
+            'a'..='i' => false,
+            '0'..='7' => true,
+            _ => return Err(Fault::NotDue),
+        };
+        let number = b.wrapping_sub(if digit { 48 } else { 97 });
+        let exists = if digit {
+            (number as usize) < self.posts
+        } else {
+            number < self.conditions
+        };
+        if !exists {
+            return Err(Fault::OutOfRange);
+        }
+        let floor = digit && !barred;
+        if self.had[b as usize] || floor && self.floored {
+            return Err(Fault::Repeated);
+        }
+        let mut next = self.until(Due::Item);
+        next.had[b as usize] = true;
+        next.floored = self.floored || floor;
+        let rule = &mut next.rule;
+        match (digit, barred) {
+            (true, true) => rule.barred_posts |= 1u8.wrapping_shl(number as u32),
+            (true, false) => rule.floor = number,
+            (false, true) => rule.barred |= 1u16.wrapping_shl(number as u32),
+            (false, false) => rule.needed |= 1u16.wrapping_shl(number as u32),
+        }
+        Ok(next)
+    }
+
+    // The next byte. What becomes of it hangs on what is due: that the machine goes by states, as the reader does not, is what it is for.
+    fn take(self, b: u8) -> Taken {
+        match (self.due, b as char) {
+            (Due::Letter | Due::Space | Due::Figure | Due::HeadEnd, _) => self.take_head(b),
+            (Due::Mark, _) => self.take_mark(b),
+            (Due::Comment, '\n') => Ok(self.until(Due::Mark)),
+            (Due::Comment, _) => Ok(self),
+            (Due::Item, '\n') => Ok(self.keep_rule()),
+            (Due::Item, ' ') => Ok(self.until(Due::Name)),
+            (Due::Item, _) => Err(Fault::NotDue),
+            (Due::Name, '!') if self.letter != b'G' => Err(Fault::NotAllowed),
+            (Due::Name, '!') => Ok(self.until(Due::BarredName)),
+            (Due::Name, _) => self.take_name(b, false),
+            (Due::BarredName, _) => self.take_name(b, true),
+        }
     }
 }
 
 // The line that a byte stands in.
 pub(crate) fn line_at(file: &[u8], offset: usize) -> usize {
-    let mut line = 1usize;
-    for b in file.iter().take(offset) {
-        if *b == b'\n' {
-            line = line.saturating_add(1);
-        }
-    }
-    line
+    let ends = file.iter().take(offset).filter(|b| **b == b'\n').count();
+    ends.saturating_add(1)
 }
 
 // The answer, and what the slots then hold. A byte 10 after the last one changes nothing, or ends the last line.
 pub(crate) fn run(posts: usize, room: usize, file: &[u8]) -> (Answer, [Rule; SLOTS]) {
-    let mut m = Machine {
-        due: Due::Letter,
-        letter: 0,
-        conditions: 0,
-        posts,
-        room,
-        rule: OLD_RULE,
-        had: [false; 256],
-        floored: false,
-        count: 0,
-        slots: [OLD_RULE; SLOTS],
-    };
+    let mut m = Machine::new(posts, room);
     for (offset, b) in file.iter().chain(b"\n").enumerate() {
         let slots = m.slots;
-        match take(m, *b) {
+        match m.take(*b) {
             Ok(next) => m = next,
-            Err(1) => return (Err((1, 1, 0)), slots),
-            Err(number) => return (Err((number, line_at(file, offset), offset)), slots),
+            Err(Fault::WrongHead) => return (Err((1, 1, 0)), slots),
+            Err(fault) => {
+                let refused = (fault.number(), line_at(file, offset), offset);
+                return (Err(refused), slots);
+            }
         }
     }
     let slots = m.slots;

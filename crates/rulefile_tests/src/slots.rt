@@ -5,9 +5,9 @@ use std::process::Abort;
 // A file, how many slots are lent, the answer, and the rules that then stand in the first slots.
 type Case = (&'static [u8], usize, Answer, &'static [Shape]);
 
-const A: Shape = ('+', 1, 0, 0, 0);
+const A: Shape = Shape('+', 1, 0, 0, 0);
 
-const ALL: Shape = ('+', 0, 0, 0, 0);
+const ALL: Shape = Shape('+', 0, 0, 0, 0);
 
 const GRANTED: [Case; 7] = [
     (b"G 1\n+ a\n", 4, Ok(('G', 1, 1)), &[A]),
@@ -39,7 +39,7 @@ const REFUSED: [Case; 10] = [
         b"A 1\n+ a\n- a\n+ a !a",
         4,
         Err((6, 4, 16)),
-        &[A, ('-', 1, 0, 0, 0)],
+        &[A, Shape('-', 1, 0, 0, 0)],
     ),
 ];
 

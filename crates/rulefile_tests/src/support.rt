@@ -1,7 +1,9 @@
-// What the tests have in common: answers and rules as plain tuples, so that the tables stay short.
-use ladders::{House, Rank};
+// What the tests have in common: answers and rules as plain values, so that the tables stay short.
+use ladders::{House, LadderRows, Rank};
+use lines::Place;
 use rulefile::{FileFault, Listing, read};
 use rules::{Effect, Rule};
+use std::fmt::Debug;
 use std::process::Abort;
 
 // What a reading answers: the letter, the number of conditions and the number of rules; or the number of a fault, its line and its
@@ -9,11 +11,43 @@ use std::process::Abort;
 pub type Answer = Result<(char, u8, usize), (u8, usize, usize)>;
 
 // A rule: its mark, the conditions needed and barred, the floor post and the barred posts.
-pub type Shape = (char, u16, u16, u8, u8);
+#[derive(Clone, Copy, Debug, PartialEq, Eq)]
+pub struct Shape(pub char, pub u16, pub u16, pub u8, pub u8);
+
+impl From<Rule> for Shape {
+    fn from(rule: Rule) -> Shape {
+        let mark = match rule.effect {
+            Effect::Permit => '+',
+            Effect::Deny => '-',
+        };
+        Shape(
+            mark,
+            rule.needed,
+            rule.barred,
+            rule.floor,
+            rule.barred_posts,
+        )
+    }
+}
+
+impl From<Shape> for Rule {
+    fn from(shape: Shape) -> Rule {
+        let Shape(mark, needed, barred, floor, barred_posts) = shape;
+        let effect = match mark {
+            '+' => Effect::Permit,
+            _ => Effect::Deny,
+        };
+        Rule {
+            effect,
+            needed,
+            barred,
+            floor,
+            barred_posts,
+        }
+    }
+}
 
 // What each slot holds before a reading. No line gives it.
-pub const OLD: Shape = ('-', 65535, 65535, 255, 255);
-
 pub const OLD_RULE: Rule = Rule {
     effect: Effect::Deny,
     needed: 65535,
@@ -22,76 +56,58 @@ pub const OLD_RULE: Rule = Rule {
     barred_posts: 255,
 };
 
-pub(crate) fn shape(rule: Rule) -> Shape {
-    let mark = match rule.effect {
-        Effect::Permit => '+',
-        Effect::Deny => '-',
-    };
-    (
-        mark,
-        rule.needed,
-        rule.barred,
-        rule.floor,
-        rule.barred_posts,
-    )
-}
-
-pub(crate) fn rule(shape: Shape) -> Rule {
-    let effect = match shape.0 {
-        '+' => Effect::Permit,
-        _ => Effect::Deny,
-    };
-    Rule {
-        effect,
-        needed: shape.1,
-        barred: shape.2,
-        floor: shape.3,
-        barred_posts: shape.4,
-    }
-}
+// What each byte of a text holds before a writing. No text has it.
+pub const OLD_BYTE: u8 = b'?';
 
 pub(crate) fn answer(read: Result<Listing, FileFault>) -> Answer {
-    match read {
-        Ok(list) => Ok((list.letter.symbol(), list.conditions, list.rules)),
-        Err(fault) => {
-            let place = fault.place();
-            Err((fault.number(), place.line, place.offset))
-        }
+    read.map(|list| (list.letter.symbol(), list.conditions, list.rules))
+        .map_err(|fault| {
+            let Place { line, offset } = fault.place();
+            (fault.number(), line, offset)
+        })
+}
+
+// A ladder of so many posts: of eight the house ladder, else a rank ladder.
+pub(crate) fn ladder(posts: usize) -> LadderRows {
+    if posts == 8 {
+        LadderRows::of(&House)
+    } else {
+        LadderRows::of(&Rank::new(posts))
     }
 }
 
-// Reads on a ladder of so many posts: of eight the house ladder, else a rank ladder.
+// Reads on a ladder of so many posts.
 pub(crate) fn read_on(posts: usize, file: &[u8], slots: &mut [Rule]) -> Answer {
-    if posts == 8 {
-        answer(read(file, &House, slots))
-    } else {
-        answer(read(file, &Rank::new(posts), slots))
-    }
+    answer(read(file, &ladder(posts), slots))
 }
 
 // Reads into the first slots only, and not into more than there are.
 pub(crate) fn read_into(posts: usize, room: usize, file: &[u8], slots: &mut [Rule]) -> Answer {
     let lent = room.min(slots.len());
-    read_on(posts, file, &mut slots[0..lent])
+    read_on(posts, file, &mut slots[..lent])
+}
+
+// These values stand at the front, and what follows them is as it was. `what` tells of which case that is.
+fn check_front<T: Copy + Debug + PartialEq, S: Copy + Into<T>>(
+    rt: &impl Abort,
+    what: &[u8],
+    found: &[T],
+    front: &[S],
+    old: T,
+) {
+    assert!(rt; front.len() <= found.len());
+    for (i, value) in found.iter().enumerate() {
+        let due = front.get(i).map_or(old, |due| (*due).into());
+        assert_eq!(rt; *value, due, "of {what:?}, at {i}");
+    }
 }
 
 // The rules of a file stand in the first slots, and the other slots hold what they held.
 pub(crate) fn check_slots(rt: &impl Abort, file: &[u8], slots: &[Rule], rules: &[Shape]) {
-    assert!(rt; rules.len() <= slots.len());
-    for (i, slot) in slots.iter().enumerate() {
-        let due = rules.get(i).copied().unwrap_or(OLD);
-        assert_eq!(rt; shape(*slot), due, "file {file:?}, slot {i}");
-    }
+    check_front(rt, file, slots, rules, OLD_RULE);
 }
-
-// What each byte of a text holds before a writing. No text has it.
-pub const OLD_BYTE: u8 = b'?';
 
 // The bytes stand at the front of the text, and the other bytes hold what they held.
 pub(crate) fn check_text(rt: &impl Abort, text: &[u8], bytes: &[u8]) {
-    assert!(rt; bytes.len() <= text.len());
-    for (i, byte) in text.iter().enumerate() {
-        let due = bytes.get(i).copied().unwrap_or(OLD_BYTE);
-        assert_eq!(rt; *byte, due, "text {bytes:?}, byte {i}");
-    }
+    check_front(rt, bytes, text, bytes, OLD_BYTE);
 }

@@ -1,6 +1,5 @@
 // Lists as they are written, and what cannot be written.
-use crate::support::{OLD_BYTE, OLD_RULE, Shape, check_slots, check_text, read_on, rule};
-use ladders::{House, Rank};
+use crate::support::{OLD_BYTE, OLD_RULE, Shape, check_slots, check_text, ladder, read_on};
 use rules::{Letter, Model, Rule};
 use std::process::Abort;
 use writing::{Unwritten, write};
@@ -30,41 +29,40 @@ fn write_into(
 ) -> Result<usize, Unwritten> {
     let (letter, n, posts) = with;
     let lent = room.min(text.len());
-    let text = &mut text[0..lent];
-    if posts == 8 {
-        write(letter, n, &House, rules, text)
-    } else {
-        write(letter, n, &Rank::new(posts), rules, text)
-    }
+    write(letter, n, &ladder(posts), rules, &mut text[..lent])
 }
 
 // One rule, and the text of the list of that rule.
 type Line = (With, Shape, &'static [u8]);
 
 const LINES: [Line; 15] = [
-    ((G, 0, 1), ('+', 0, 0, 0, 0), b"G 0\n+\n"),
-    ((G, 0, 1), ('+', 0, 0, 0, 1), b"G 0\n+ !0\n"),
-    ((G, 0, 8), ('+', 0, 0, 7, 0), b"G 0\n+ 7\n"),
-    ((G, 0, 8), ('+', 0, 0, 7, 1), b"G 0\n+ 7 !0\n"),
-    ((G, 0, 8), ('+', 0, 0, 0, 128), b"G 0\n+ !7\n"),
-    ((G, 0, 8), ('+', 0, 0, 3, 96), b"G 0\n+ 3 !5 !6\n"),
-    ((G, 2, 8), ('+', 1, 2, 4, 0), b"G 2\n+ 4 a !b\n"),
-    ((G, 3, 8), ('+', 2, 5, 3, 96), b"G 3\n+ 3 !5 !6 !a b !c\n"),
-    ((G, 9, 2), ('+', 256, 0, 1, 1), b"G 9\n+ 1 !0 i\n"),
+    ((G, 0, 1), Shape('+', 0, 0, 0, 0), b"G 0\n+\n"),
+    ((G, 0, 1), Shape('+', 0, 0, 0, 1), b"G 0\n+ !0\n"),
+    ((G, 0, 8), Shape('+', 0, 0, 7, 0), b"G 0\n+ 7\n"),
+    ((G, 0, 8), Shape('+', 0, 0, 7, 1), b"G 0\n+ 7 !0\n"),
+    ((G, 0, 8), Shape('+', 0, 0, 0, 128), b"G 0\n+ !7\n"),
+    ((G, 0, 8), Shape('+', 0, 0, 3, 96), b"G 0\n+ 3 !5 !6\n"),
+    ((G, 2, 8), Shape('+', 1, 2, 4, 0), b"G 2\n+ 4 a !b\n"),
+    (
+        (G, 3, 8),
+        Shape('+', 2, 5, 3, 96),
+        b"G 3\n+ 3 !5 !6 !a b !c\n",
+    ),
+    ((G, 9, 2), Shape('+', 256, 0, 1, 1), b"G 9\n+ 1 !0 i\n"),
     (
         (G, 9, 8),
-        ('+', 341, 170, 3, 247),
+        Shape('+', 341, 170, 3, 247),
         b"G 9\n+ 3 !0 !1 !2 !4 !5 !6 !7 a !b c !d e !f g !h i\n",
     ),
     (
         (A, 9, 8),
-        ('+', 511, 0, 7, 0),
+        Shape('+', 511, 0, 7, 0),
         b"A 9\n+ 7 a b c d e f g h i\n",
     ),
-    ((A, 1, 1), ('-', 0, 0, 0, 0), b"A 1\n-\n"),
-    ((B, 1, 8), ('-', 1, 0, 6, 0), b"B 1\n- 6 a\n"),
-    ((C, 3, 3), ('+', 5, 0, 2, 0), b"C 3\n+ 2 a c\n"),
-    ((D, 2, 4), ('-', 2, 0, 3, 0), b"D 2\n- 3 b\n"),
+    ((A, 1, 1), Shape('-', 0, 0, 0, 0), b"A 1\n-\n"),
+    ((B, 1, 8), Shape('-', 1, 0, 6, 0), b"B 1\n- 6 a\n"),
+    ((C, 3, 3), Shape('+', 5, 0, 2, 0), b"C 3\n+ 2 a c\n"),
+    ((D, 2, 4), Shape('-', 2, 0, 3, 0), b"D 2\n- 3 b\n"),
 ];
 
 // The list of one rule is written as due, with no more room than it has bytes, and not with less.
@@ -72,7 +70,7 @@ fn check_line(rt: &impl Abort, line: Line) {
     let (with, shape, due) = line;
     let len = due.len();
     assert!(rt; 1 <= len);
-    let rules = [rule(shape)];
+    let rules = [shape.into()];
     let mut text = [OLD_BYTE; ROOM];
     assert_eq!(rt;
         write_into(with, &rules, len, &mut text),
@@ -101,33 +99,33 @@ fn lines_of_rules(rt: HostRuntime) {
 
 // A rule that no line gives.
 const UNSAID: [(With, Shape); 19] = [
-    ((G, 2, 8), ('+', 4, 0, 0, 0)),
-    ((G, 2, 8), ('+', 0, 4, 0, 0)),
-    ((G, 9, 8), ('+', 512, 0, 0, 0)),
-    ((G, 9, 8), ('+', 0, 32768, 0, 0)),
-    ((G, 0, 8), ('+', 1, 0, 0, 0)),
-    ((G, 2, 8), ('+', 0, 0, 8, 0)),
-    ((G, 2, 3), ('+', 0, 0, 3, 0)),
-    ((G, 2, 8), ('+', 0, 0, 255, 0)),
-    ((G, 2, 3), ('+', 0, 0, 0, 8)),
-    ((G, 2, 7), ('+', 0, 0, 0, 128)),
-    ((G, 2, 8), ('+', 3, 2, 0, 0)),
-    ((G, 2, 8), ('+', 0, 0, 3, 8)),
-    ((G, 2, 8), ('+', 0, 0, 7, 255)),
-    ((G, 2, 8), ('-', 0, 0, 0, 0)),
-    ((A, 2, 8), ('+', 0, 1, 0, 0)),
-    ((B, 2, 8), ('-', 0, 0, 0, 1)),
-    ((C, 2, 8), ('+', 0, 0, 0, 128)),
-    ((D, 2, 8), ('-', 0, 2, 0, 0)),
-    ((D, 2, 8), ('-', 4, 0, 0, 0)),
+    ((G, 2, 8), Shape('+', 4, 0, 0, 0)),
+    ((G, 2, 8), Shape('+', 0, 4, 0, 0)),
+    ((G, 9, 8), Shape('+', 512, 0, 0, 0)),
+    ((G, 9, 8), Shape('+', 0, 32768, 0, 0)),
+    ((G, 0, 8), Shape('+', 1, 0, 0, 0)),
+    ((G, 2, 8), Shape('+', 0, 0, 8, 0)),
+    ((G, 2, 3), Shape('+', 0, 0, 3, 0)),
+    ((G, 2, 8), Shape('+', 0, 0, 255, 0)),
+    ((G, 2, 3), Shape('+', 0, 0, 0, 8)),
+    ((G, 2, 7), Shape('+', 0, 0, 0, 128)),
+    ((G, 2, 8), Shape('+', 3, 2, 0, 0)),
+    ((G, 2, 8), Shape('+', 0, 0, 3, 8)),
+    ((G, 2, 8), Shape('+', 0, 0, 7, 255)),
+    ((G, 2, 8), Shape('-', 0, 0, 0, 0)),
+    ((A, 2, 8), Shape('+', 0, 1, 0, 0)),
+    ((B, 2, 8), Shape('-', 0, 0, 0, 1)),
+    ((C, 2, 8), Shape('+', 0, 0, 0, 128)),
+    ((D, 2, 8), Shape('-', 0, 2, 0, 0)),
+    ((D, 2, 8), Shape('-', 4, 0, 0, 0)),
 ];
 
 // The first such slot is told, before any want of room, and no byte is written.
 #[test]
 fn rules_that_no_line_gives(rt: HostRuntime) {
     for (with, shape) in UNSAID {
-        let said = rule(('+', 0, 0, 0, 0));
-        let unsaid = rule(shape);
+        let said = Rule::from(Shape('+', 0, 0, 0, 0));
+        let unsaid = Rule::from(shape);
         for room in [0, ROOM] {
             let mut text = [OLD_BYTE; ROOM];
             let rules = [said, unsaid, unsaid];
