@@ -35,9 +35,7 @@ fn known_name(b: u8, grammar: Grammar, place: Place) -> Result<Name, ItemFault>
     ensures value { result ≡ known_name grammar (name_of b) place }
     ensures known { IfOk result Known }
 {
-    let Some(name) = name_of(b) else {
-        return Err(ItemFault::NotDue(place));
-    };
+    let name = name_of(b).ok_or(ItemFault::NotDue(place))?;
     if is_within(name, grammar) {
         Ok(name)
     } else {
@@ -148,9 +146,9 @@ pub(crate) fn read_items(
             offset,
         };
         let (item, more) = first_item(rest, grammar, draft, here)?;
-        draft = draft.with_item(item);
+        draft.add(item);
         offset += rest.len() - more.len();
         rest = more;
     }
-    Ok(draft.rule())
+    Ok(Rule::from(draft))
 }

@@ -35,19 +35,17 @@ pub fn read<L: Ladder>(file: &[u8], ladder: &L, slots: &mut [Rule]) -> Result<Li
     ensures once { OneReading (L.posts ladder.now) file.now }
     ensures lawful { EveryRule (L.posts ladder.now) }
 {
-    let mut reader = Reader::new(file);
-    let Some(line) = reader.next_line() else {
-        return Err(FileFault::WrongHead);
-    };
-    let Some((letter, conditions)) = read_head(line.bytes) else {
-        return Err(FileFault::WrongHead);
-    };
+    let mut lines = Reader::new(file);
+    let (letter, conditions) = lines
+        .next()
+        .and_then(|line| read_head(line.bytes))
+        .ok_or(FileFault::WrongHead)?;
     let grammar = Grammar {
         letter,
         conditions,
         posts: ladder.count(),
     };
-    let rules = read_rules(&mut reader, grammar, slots)?;
+    let rules = read_rules(&mut lines, grammar, slots)?;
     Ok(Listing {
         letter,
         conditions,

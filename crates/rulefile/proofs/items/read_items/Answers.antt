@@ -11,9 +11,9 @@ returns-in_err-item c =
 
 pub loop-rest-preserved : goal.loop-rest-preserved
 loop-rest-preserved c = (
-  λ r h. c.loop-rest.invariant.0 r (more c.in_ok-item.item c.in_ok-item.more.now (sym c.in_ok-item.ensures.value) (rw c.with_item-draft.ensures at h)),
+  λ r h. c.loop-rest.invariant.0 r (more c.in_ok-item.item c.in_ok-item.more.now (sym c.in_ok-item.ensures.value) (rw c.add.ensures at h)),
   omega (arith, c.in_ok-item.ensures.known),
 )
 
 pub returns : goal.returns
-returns c = rw c.rule.ensures (c.loop-rest.invariant.0 (Ok (finished c.loop-rest.draft)) (end (search rules)))
+returns c = rw c.from.ensures (c.loop-rest.invariant.0 (Ok (finished c.loop-rest.draft)) (end (search rules)))
