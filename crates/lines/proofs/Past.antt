@@ -6,7 +6,8 @@ use Rattle.std.specs.Iterator.{Yields, Drains, FindsItem}
 use Rattle.std.specs.List.{slice_get, AllByRecursion, FoldsTo}
 use Rattle.std.specs.Option.{option_map}
 use Rattle.std.proofs.lemmas.List.{take-append-drop, append_assoc, drop_more, drop-drop, drop_all, take_all, length-drop, length_push}
-use Rattle.std.proofs.lemmas.Option.{slice_get_past}
+use Rattle.std.proofs.lemmas.Option.{slice_get_past, slice_get_read}
+use Rattle.std.proofs.Math.Seq.{get_or-append_seam}
 use Rattle.std.proofs.lemmas.Bool.{cases_eq, eqb-true, eqb-false}
 use Rattle.lines.specs.declared.reader.Line.{Line}
 use Rattle.lines.specs.declared.reader.Reader.{Reader}
@@ -120,11 +121,6 @@ past_more file x read at read' at' p f r on in' =
       count = length_push p.before (span (read + 1) at x) ∙ ap (λ k. k + 1) count;
     })
 
--- The element past those before it.
-nth_here : (before after : List Span) (sp : Span) → slice_get (before ++ (sp ∷ after)) (length before) ≡ Some sp
-nth_here [] after sp = refl
-nth_here (b ∷ bs) after sp = nth_here bs after sp
-
 -- The line at the reader's place is the next line of the file.
 pub past-line : (file x : List ℕ) (read at at' : ℕ) → Past file read at → FirstLine (drop at file) x (drop at' file) → at < at' → at' ≤ length file → (ls : List Span) × Lines 1 0 file ls × (slice_get ls read ≡ Some (span (read + 1) at x))
 past-line file x read at at' p f on in' =
@@ -133,7 +129,8 @@ past-line file x read at at' p f on in' =
       p.whole,
       ap (λ t. slice_get (p.before ++ t) read) n.1
           ∙ ap (λ k. slice_get (p.before ++ (span (read + 1) at x ∷ n.0)) k) (sym p.count)
-          ∙ nth_here p.before n.0 (span (read + 1) at x),
+          ∙ slice_get_read (p.before ++ (span (read + 1) at x ∷ n.0)) (length (p.before ++ (span (read + 1) at x ∷ n.0))) (length p.before) (span (read + 1) at x) refl
+              (simp length-append (omega arith)) (sym (get_or-append_seam p.before (span (read + 1) at x) n.0 (span (read + 1) at x))),
     )
 
 -- At the end of the file all lines are read.

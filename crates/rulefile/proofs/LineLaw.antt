@@ -1,8 +1,9 @@
 -- What the reader answers of a whole line is what the line says.
-use Rattle.std.proofs.Common.{◌≡◌, ℕ, suc, ◌+◌, ◌<◌, ◌≤◌, Bool, true, false, cond, eqb, List, [], ◌∷◌, ◌++◌, length, Ok, Err, Result, sym, refl, ap, ◌∙◌, subst, ap₂, inl, inr, ⊎_elim, append_assoc, append-nil, add-zero, arith, length-append}
+use Rattle.std.proofs.Common.{◌≡◌, ℕ, suc, ◌+◌, ◌<◌, ◌≤◌, Bool, true, false, cond, eqb, List, [], ◌∷◌, ◌++◌, length, Some, None, Ok, Err, Option, Result, sym, refl, ap, ◌∙◌, subst, ap₂, inl, inr, ⊎_elim, append_assoc, append-nil, add-zero, arith, length-append}
 use Rattle.std.specs.List.{flat_map, AllByRecursion}
 use Rattle.std.proofs.lemmas.List.{nil_from_length, flat_map_more}
 use Rattle.std.proofs.lemmas.Bool.{both_ways, cond_both, eqb-true, eqb-false}
+use Rattle.lines.specs.declared.reader.Line.{Line as ReadLine}
 use Rattle.lines.specs.declared.reader.Place.{Place}
 use Rattle.rules.specs.declared.rule.Effect.{Effect}
 use Rattle.rules.specs.declared.rule.Effect.TheVariants.{Permit, Deny}
@@ -11,17 +12,26 @@ use Rattle.rules.specs.declared.letter.Letter.TheVariants.{Guarded}
 use Rattle.rulefile.specs.declared.grammar.Grammar.{Grammar}
 use Rattle.rulefile.specs.declared.grammar.Item.{Item}
 use Rattle.rulefile.specs.declared.draft.Draft.{Draft}
+use Rattle.rulefile.specs.declared.items.ItemReader.{ItemReader}
+use Rattle.rulefile.specs.declared.faults.FileFault.{FileFault}
 use Rattle.rulefile.specs.declared.faults.LineFault.{LineFault}
 use Rattle.rulefile.specs.declared.faults.LineFault.TheVariants.{NoMark, NotAllowed}
 use Rattle.rulefile.specs.declared.faults.FileFault.TheVariants.{Line, NoSlot}
-use Rattle.rulefile.specs.Faults.{Kind, wrong-head, no-mark, not-due, out_of_range, repeated, not-allowed, no_slot, number, place, line_kind, line_place}
+use Rattle.rulefile.specs.Faults.{Kind, wrong-head, no-mark, not-due, out_of_range, repeated, not-allowed, no_slot, number, place, line_kind, line_place, kind_of, place_of}
 use Rattle.rulefile.specs.Items.{Known, spelled, again, Follow, mark_of, Means, Spells}
 use Rattle.rulefile.specs.Faulty.{Begun, begun, Amiss, InItems, AtMark, FirstFault}
-use Rattle.rulefile.specs.RuleLines.{LineSays}
-use Rattle.rulefile.specs.Steps.{fresh, is_guarded, item_read, ItemsRead, end, bad, more, with_item, drafted, finished, next_place, mark_read, repeats, in_file}
+use Rattle.rulefile.specs.RuleLines.{silent}
+use Rattle.rulefile.specs.Steps.{fresh, is_guarded, item_read, ItemsRead, end, bad, more, with_item, drafted, finished, next_place, mark_read, repeats, in_file, at, Opened, Unopened}
 use Rattle.rulefile.proofs.Drafts.{repeats-again, means-drafted, drafted-effect, drafted-push, follow-push}
 use Rattle.rulefile.proofs.Places.{Ready, first-place}
 use Rattle.rulefile.proofs.ItemLaw.{Told, ItemSays, item-says, guarded-true, guarded-false}
+
+-- The line x, whose first byte has the place p, says r.
+abbrev pub LineSays : Grammar → Bool → Place → List ℕ → Result (Option Rule) FileFault → Type 0
+LineSays g room p x (Ok None) = silent x ≡ true
+LineSays g room p x (Ok (Some t)) = (silent x ≡ false) × ((room ≡ true) × Spells g x t)
+LineSays g room p x (Err f) =
+    (silent x ≡ false) × ((j : ℕ) × ((place_of f ≡ place p.line (p.offset + j)) × FirstFault g room x j (kind_of f)))
 
 pub follow-known : (g : Grammar) (before is : List Item) → Follow g before is → AllByRecursion (λ i. Known i.name) is
 follow-known g before [] f = tt
@@ -202,3 +212,19 @@ module _ (g : Grammar) (room : Bool) (p : Place) (b : ℕ) (rest : List ℕ) (lo
   pub itemed-line : (e : Effect) (r : Result Rule LineFault) → mark_read g b p ≡ Ok e → room ≡ true → ItemsRead g (fresh e) rest (next_place p) r → LineSays g room p (b ∷ rest) (in_file r)
   itemed-line e r m full h =
       let (c, l) = subst (MarkSays g b p) m (mark-says g b p) in concluded e r full c l (items_give g e b rest p h [] refl tt refl refl)
+
+-- What a line says by how it begins.
+module _ (g : Grammar) (room : Bool) (l : ReadLine) where
+  pub unopened-line : (f : LineFault) → Unopened g l f → LineSays g room l.place l.bytes.now (Err (Line f))
+  unopened-line f u = subst (λ xs. LineSays g room l.place xs (Err (Line f))) (sym u.bytes) (wrong-mark g room l.place u.mark u.rest u.loud f u.read)
+
+  module _ (s : ItemReader) (o : Opened g l s) where
+    pub slotless-line : room ≡ false → LineSays g room l.place l.bytes.now (Err (NoSlot l.place))
+    slotless-line r = subst (λ xs. LineSays g room l.place xs (Err (NoSlot l.place))) (sym o.bytes) (slotless g room l.place o.mark s.rest.now o.loud o.effect o.read r)
+
+    pub opened-line : (r : Result Rule LineFault) → room ≡ true → ItemsRead s.grammar s.draft s.rest.now (at s) r → LineSays g room l.place l.bytes.now (in_file r)
+    opened-line r full h =
+        subst (λ xs. LineSays g room l.place xs (in_file r)) (sym o.bytes)
+        (itemed-line g room l.place o.mark s.rest.now o.loud o.effect r o.read full
+        (subst (λ p. ItemsRead g (fresh o.effect) s.rest.now p r) o.place
+        (subst (λ d. ItemsRead g d s.rest.now (at s) r) o.draft (subst (λ k. ItemsRead k s.draft s.rest.now (at s) r) o.grammar h))))
