@@ -329,23 +329,23 @@ module _ {file : Bor (List ℕ)} (s t : Reader) (same : s.file ≡ file) (unread
       (subst (λ a. Stepped file 0 a l t.read t.at) begins (subst (λ k. Stepped file k s.at l t.read t.at) unread (subst (λ f. Stepped f s.read s.at l t.read t.at) same h.1))) ahead
 
   -- Without a first line that is a head, the file has none.
-  pub no-head : (first : Option Line) → Turn s first t → option_and_then (λ l. head_of l.bytes.now) first ≡ None → Headless file.now
-  no-head None h e = let long = ap (λ f. length f.now) same in let end = h.1.0 in ([], (lines_end file.now 1 0 0 (omega arith), tt))
-  no-head (Some l) h e = (span 1 0 l.bytes.now ∷ others, (opened l h, subst (HeadSays l.bytes.now) e (head-says l.bytes.now)))
+  pub no-head : (first : Option Line) (told : Option (Letter × ℕ)) → Turn s first t → told ≡ option_and_then (λ l. head_of l.bytes.now) first → told ≡ None → Headless file.now
+  no-head None told h e n = let long = ap (λ f. length f.now) same in let end = h.1.0 in ([], (lines_end file.now 1 0 0 (omega arith), tt))
+  no-head (Some l) told h e n = (span 1 0 l.bytes.now ∷ others, (opened l h, subst (HeadSays l.bytes.now) (sym e ∙ n) (head-says l.bytes.now)))
 
   -- With the head told, what the other lines say is the answer.
-  pub answered : (posts k : ℕ) (slots slots' : List Rule) (letter : Letter) (n : ℕ) (first : Option Line) (r : Result ℕ FileFault) → Turn s first t
-      → option_and_then (λ l. head_of l.bytes.now) first ≡ Some (letter, n) → k ≡ posts
+  pub answered : (posts k : ℕ) (slots slots' : List Rule) (letter : Letter) (n : ℕ) (first : Option Line) (told : Option (Letter × ℕ)) (r : Result ℕ FileFault) → Turn s first t
+      → told ≡ option_and_then (λ l. head_of l.bytes.now) first → told ≡ Some (letter, n) → k ≡ posts
       → ((ls : List Span) → Lines (t.read + 1) t.at (drop t.at t.file.now) ls → RestSays (grammar letter n k) ls slots r slots')
       → Answers posts file.now slots (listing letter n r) slots'
-  answered posts k slots slots' letter n None r h told count says = let z : ◌≡◌ {A = ℕ} 0 1 = cc in absurd (omega arith)
-  answered posts k slots slots' letter n (Some l) r h told count says =
+  answered posts k slots slots' letter n None told r h e m count says = let z : ◌≡◌ {A = ℕ} 0 1 = cc in absurd (omega arith)
+  answered posts k slots slots' letter n (Some l) told r h e m count says =
       concluded r
       (subst (λ m. RestSays (grammar letter n m) others slots r slots') count
       (says others (subst (λ f. Lines (t.read + 1) t.at (drop t.at f.now) others) (sym (h.0 ∙ same)) ahead)))
     where
       head-told : Head l.bytes.now letter n
-      head-told = subst (HeadSays l.bytes.now) told (head-says l.bytes.now)
+      head-told = subst (HeadSays l.bytes.now) (sym e ∙ m) (head-says l.bytes.now)
 
       concluded : (r : Result ℕ FileFault) → RestSays (grammar letter n posts) others slots r slots' → Answers posts file.now slots (listing letter n r) slots'
       concluded (Ok c) h' = listed posts file.now slots slots' (span 1 0 l.bytes.now) others letter n (opened l h) head-told c h'

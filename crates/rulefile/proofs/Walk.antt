@@ -1,7 +1,7 @@
 -- Reading the rule lines one after the other: what is read so far, and each way on.
-use Rattle.std.proofs.Common.{◌≡◌, ℕ, ◌+◌, ◌<◌, ◌≤◌, ltb, true, List, [], ◌∷◌, ◌++◌, length, get_or, take, drop, set, Some, Ok, Err, sym, refl, ap, ◌∙◌, subst, ap₂, append_assoc, append-nil, arith, length-append}
+use Rattle.std.proofs.Common.{◌≡◌, ℕ, ◌+◌, ◌<◌, ◌≤◌, ltb, true, List, [], ◌∷◌, ◌++◌, length, take, drop, set, Some, Ok, Err, sym, refl, ap, ◌∙◌, subst, ap₂, append_assoc, append-nil, arith, length-append}
 use Rattle.std.specs.List.{slice_get}
-use Rattle.std.proofs.lemmas.List.{length_push, drop_more, set_at, take_at}
+use Rattle.std.proofs.lemmas.List.{length_push, take_at}
 use Rattle.std.proofs.lemmas.Option.{slice_get_read}
 use Rattle.std.proofs.Math.Seq.{get_or-append_seam}
 use Rattle.lines.specs.Lines.{Span, span, Lines}
@@ -10,13 +10,15 @@ use Rattle.lines.specs.declared.reader.Reader.{Reader}
 use Rattle.lines.proofs.Past.{past_next, lines_end, Turn}
 use Rattle.lines.proofs.Split.{lines-one}
 use Rattle.rules.specs.declared.rule.Rule.{Rule}
+use Rattle.rules.specs.Filled.{filled}
+use Rattle.rules.proofs.Filled.{filled_more}
 use Rattle.rulefile.specs.declared.grammar.Grammar.{Grammar}
 use Rattle.rulefile.specs.declared.faults.FileFault.{FileFault}
 use Rattle.rulefile.specs.Faults.{kind_of, place}
 use Rattle.rulefile.specs.Items.{Spells}
 use Rattle.rulefile.specs.Faulty.{FirstFault}
 use Rattle.rulefile.specs.RuleLines.{silent}
-use Rattle.rulefile.specs.Files.{Say, nothing, silence, a-rule, filled}
+use Rattle.rulefile.specs.Files.{Say, nothing, silence, a-rule}
 use Rattle.rulefile.specs.Steps.{Stopped, RestSays}
 use Rattle.rulefile.proofs.LineLaw.{LineSays}
 
@@ -29,13 +31,6 @@ say-rule : {g : Grammar} {ls : List Span} {ts : List Rule} (l : Span) (t : Rule)
 say-rule l t nothing h = a-rule h nothing
 say-rule l t (silence k s) h = silence k (say-rule l t s h)
 say-rule l t (a-rule k s) h = a-rule k (say-rule l t s h)
-
-filled_more : (ts slots : List Rule) (t : Rule) → length ts < length slots → set (filled ts slots) (length ts) t ≡ filled (ts ++ (t ∷ [])) slots
-filled_more ts slots t h =
-    ap (λ xs. set (ts ++ xs) (length ts) t) (drop_more slots (length ts) t h)
-    ∙ set_at ts (get_or slots (length ts) t) (drop (length ts + 1) slots) t (length ts) refl
-    ∙ sym (append_assoc ts (t ∷ []) (drop (length ts + 1) slots))
-    ∙ ap (λ n. (ts ++ (t ∷ [])) ++ drop n slots) (sym (length_push ts t))
 
 -- Of the lines ls ahead at first, those in `before` are read, and their rules stand in the first slots; the reader s has the others ahead.
 pub record Sofar (g : Grammar) (ls : List Span) (slots : List Rule) (s : Reader) (count : ℕ) (held : List Rule) : Type 0 where

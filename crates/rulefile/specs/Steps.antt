@@ -9,6 +9,7 @@ use Rattle.lines.specs.declared.reader.Place.{Place}
 use Rattle.rules.specs.declared.rule.Effect.{Effect}
 use Rattle.rules.specs.declared.rule.Effect.TheVariants.{Permit, Deny}
 use Rattle.rules.specs.declared.rule.Rule.{Rule}
+use Rattle.rules.specs.Filled.{filled}
 use Rattle.rules.specs.declared.letter.Letter.{Letter}
 use Rattle.rules.specs.declared.letter.Letter.TheVariants.{Guarded, Model}
 use Rattle.rules.specs.declared.letter.Model.TheVariants.{A, B, C, D}
@@ -29,7 +30,7 @@ use Rattle.rulefile.specs.Faults.{kind_of, place, place_of}
 use Rattle.rulefile.specs.Items.{name_of, item}
 use Rattle.rulefile.specs.Faulty.{FirstFault}
 use Rattle.rulefile.specs.RuleLines.{silent}
-use Rattle.rulefile.specs.Files.{Say, filled}
+use Rattle.rulefile.specs.Files.{Say}
 
 abbrev pub fresh : Effect → Draft
 fresh e = record { effect = e; needed = 0; barred = 0; floor = None; barred_posts = 0 }

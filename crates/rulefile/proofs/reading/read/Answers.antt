@@ -1,4 +1,4 @@
-use Rattle.std.proofs.Common.{◌≡◌, Ok, Err, ◌∙◌, rules, sym, tests}
+use Rattle.std.proofs.Common.{◌≡◌, Ok, Err, rules, tests}
 use Rattle.std.specs.Option.{option_and_then}
 use Rattle.std.proofs.lemmas.Result.{err_from_is_err_and}
 use Rattle.rulefile.specs.declared.faults.FileFault.TheVariants.{WrongHead}
@@ -16,7 +16,7 @@ returns-in_err-letter g c =
     (record {
       answer =
           headless (g.L.Ladder.posts c.args.ladder.now) c.args.file.now c.args.slots.now
-          (no-head c.new-lines.result c.next.new.self c.new-lines.ensures.file c.new-lines.ensures.read c.new-lines.ensures.at c.next.result c.next.ensures.steps (sym head ∙ f.ok_part));
+          (no-head c.new-lines.result c.next.new.self c.new-lines.ensures.file c.new-lines.ensures.read c.new-lines.ensures.at c.next.result c.and_then.result c.next.ensures.steps head f.ok_part);
       once = one-reading (g.L.Ladder.posts c.args.ladder.now) c.args.file.now;
       lawful = every-rule (g.L.Ladder.posts c.args.ladder.now);
     })
@@ -29,8 +29,8 @@ returns-in_err-rules g c =
     (record {
       answer =
           answered c.new-lines.result c.next.new.self c.new-lines.ensures.file c.new-lines.ensures.read c.new-lines.ensures.at
-          (g.L.Ladder.posts c.args.ladder.now) c.count.result c.args.slots.now c.read_rules.new.slots c.in_ok-letter.letter c.in_ok-letter.conditions c.next.result (Err c.in_err-rules.field-0.0)
-          c.next.ensures.steps (sym head ∙ c.in_ok-letter.ensures.ok_part) c.count.ensures c.in_err-rules.ensures;
+          (g.L.Ladder.posts c.args.ladder.now) c.count.result c.args.slots.now c.read_rules.new.slots c.in_ok-letter.letter c.in_ok-letter.conditions c.next.result c.and_then.result (Err c.in_err-rules.field-0.0)
+          c.next.ensures.steps head c.in_ok-letter.ensures.ok_part c.count.ensures c.in_err-rules.ensures;
       once = one-reading (g.L.Ladder.posts c.args.ladder.now) c.args.file.now;
       lawful = every-rule (g.L.Ladder.posts c.args.ladder.now);
     })
@@ -41,8 +41,8 @@ returns g c =
     record {
       answer =
           answered c.new-lines.result c.next.new.self c.new-lines.ensures.file c.new-lines.ensures.read c.new-lines.ensures.at
-          (g.L.Ladder.posts c.args.ladder.now) c.count.result c.args.slots.now c.read_rules.new.slots c.in_ok-letter.letter c.in_ok-letter.conditions c.next.result (Ok c.in_ok-rules.rules)
-          c.next.ensures.steps (sym head ∙ c.in_ok-letter.ensures.ok_part) c.count.ensures c.in_ok-rules.ensures;
+          (g.L.Ladder.posts c.args.ladder.now) c.count.result c.args.slots.now c.read_rules.new.slots c.in_ok-letter.letter c.in_ok-letter.conditions c.next.result c.and_then.result (Ok c.in_ok-rules.rules)
+          c.next.ensures.steps head c.in_ok-letter.ensures.ok_part c.count.ensures c.in_ok-rules.ensures;
       once = one-reading (g.L.Ladder.posts c.args.ladder.now) c.args.file.now;
       lawful = every-rule (g.L.Ladder.posts c.args.ladder.now);
     }
