@@ -24,7 +24,7 @@ pub kept-on : (s t u : ItemReader) → Kept s t → Kept t u → Kept s u
 kept-on s t u k l = record { grammar = l.grammar ∙ k.grammar; line = l.line ∙ k.line; end = l.end ∙ k.end }
 
 -- an item takes at least one byte
-item-shorter : (g : Grammar) (d : Draft) (xs : List ℕ) (p : Place) (i : Item) (rest : List ℕ) → item_read g d xs p ≡ Ok (i, rest) → length rest < length xs
+pub item-shorter : (g : Grammar) (d : Draft) (xs : List ℕ) (p : Place) (i : Item) (rest : List ℕ) → item_read g d xs p ≡ Ok (i, rest) → length rest < length xs
 item-shorter g d [] p i rest e = grind arith
 item-shorter g d (a ∷ []) p i rest e = grind arith
 item-shorter g d (a ∷ (b ∷ [])) p i rest e = grind arith
