@@ -21,7 +21,7 @@ use Rattle.rulefile.specs.Faults.{Kind, wrong-head, no-mark, not-due, out_of_ran
 use Rattle.rulefile.specs.Items.{Known, spelled, again, Follow, mark_of, Means, Spells}
 use Rattle.rulefile.specs.Faulty.{Begun, begun, Amiss, InItems, AtMark, FirstFault}
 use Rattle.rulefile.specs.RuleLines.{silent}
-use Rattle.rulefile.specs.Steps.{fresh, is_guarded, item_read, ItemsRead, end, bad, more, with_item, drafted, finished, next_place, mark_read, repeats, in_file, at, Opened, Unopened}
+use Rattle.rulefile.specs.Steps.{fresh, is_guarded, ItemsRead, end, bad, more, with_item, drafted, finished, next_place, mark_read, repeats, in_file, at, Opened, Unopened}
 use Rattle.rulefile.proofs.Drafts.{repeats-again, means-drafted, drafted-effect, drafted-push, follow-push}
 use Rattle.rulefile.proofs.Onward.{item-shorter}
 use Rattle.rulefile.proofs.Places.{Ready, first-place}

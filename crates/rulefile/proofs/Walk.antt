@@ -44,19 +44,19 @@ pub record Sofar (g : Grammar) (ls : List Span) (slots : List Rule) (s : Reader)
   pub few : length ts ≤ length slots
   pub holds : held ≡ filled ts slots
 
-module _ (g : Grammar) (ls : List Span) (slots : List Rule) (s : Reader) where
-  pub sofar-none : Lines (s.read + 1) s.at (drop s.at s.file.now) ls → Sofar g ls slots s 0 slots
-  sofar-none h =
-      record { before = []; ahead = ls; ts = []; split = refl; rest = h; said = nothing; counted = refl; few = omega arith; holds = refl }
+pub sofar-none : {g : Grammar} {ls : List Span} {slots : List Rule} (s : Reader) → Lines (s.read + 1) s.at (drop s.at s.file.now) ls → Sofar g ls slots s 0 slots
+sofar-none {ls = ls} s h =
+    record { before = []; ahead = ls; ts = []; split = refl; rest = h; said = nothing; counted = refl; few = omega arith; holds = refl }
 
-  pub sofar-all : (count : ℕ) (held : List Rule) → Sofar g ls slots s count held → length s.file.now ≤ s.at → RestSays g ls slots (Ok count) held
-  sofar-all count held f h =
+module _ {g : Grammar} {ls : List Span} {slots : List Rule} {s : Reader} where
+  pub sofar-all : {count : ℕ} {held : List Rule} → Sofar g ls slots s count held → length s.file.now ≤ s.at → RestSays g ls slots (Ok count) held
+  sofar-all f h =
       let none : f.ahead ≡ [] = lines-one (s.read + 1) s.at (drop s.at s.file.now) f.ahead [] f.rest (lines_end s.file.now (s.read + 1) s.at s.at h) in
       let whole : ls ≡ f.before = f.split ∙ ap (λ ms. f.before ++ ms) none ∙ append-nil f.before in
       (f.ts, (subst (λ xs. Say g xs f.ts) (sym whole) f.said, (f.counted, (f.few, f.holds))))
 
   -- The reader hands out the line l, and goes on as t.
-  module _ (l : Line) (t : Reader) (step : Turn s (Some l) t) (count : ℕ) (held : List Rule) (f : Sofar g ls slots s count held) where
+  module _ {count : ℕ} {held : List Rule} (f : Sofar g ls slots s count held) {l : Line} (t : Reader) (step : Turn s (Some l) t) where
     line : Span
     line = span (s.read + 1) s.at l.bytes.now
 

@@ -16,12 +16,10 @@ const COMMENT: char = '#';
 fn read_mark(mark: u8, grammar: Grammar, place: Place) -> Result<Effect, LineFault>
     ensures { result ≡ mark_read grammar mark place }
 {
-    match mark as char {
-        '+' => Ok(Effect::Permit),
-        '-' => match grammar.letter {
-            Letter::Guarded => Err(LineFault::NotAllowed(place)),
-            Letter::Model(_) => Ok(Effect::Deny),
-        },
+    match (mark as char, grammar.letter) {
+        ('+', _) => Ok(Effect::Permit),
+        ('-', Letter::Guarded) => Err(LineFault::NotAllowed(place)),
+        ('-', Letter::Model(_)) => Ok(Effect::Deny),
         _ => Err(LineFault::NoMark(place)),
     }
 }
