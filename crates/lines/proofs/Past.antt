@@ -1,11 +1,17 @@
 -- A reader goes over the lines of a file one by one.
-use Rattle.std.proofs.Common.{◌≡◌, ℕ, suc, ◌+◌, ◌-◌, ◌<◌, ◌≤◌, ◌⊎◌, List, [], ◌∷◌, ◌++◌, length, get_or, take, drop, Some, None, sym, refl, ap, ◌∙◌, subst, inl, inr, ⊎_elim, arith, length-append, Bor}
-use Rattle.std.specs.List.{slice_get}
+use Rattle.std.proofs.Common.{◌≡◌, ℕ, suc, ◌+◌, ◌-◌, ◌<◌, ◌≤◌, Bool, true, false, eqb, ◌⊎◌, List, [], ◌∷◌, ◌++◌, length, get_or, take, drop, Some, None, Option, IfSome, ◌≢◌, sym, refl, ap, ◌∙◌, subst, inl, inr, ⊎_elim, arith, length-append, Bor}
+use denote.Param.Members.{Mut}
+use Rattle.std.specs.Fn.{CalledAt}
+use Rattle.std.specs.Iterator.{Yields, Drains, FindsItem}
+use Rattle.std.specs.List.{slice_get, AllByRecursion, FoldsTo}
+use Rattle.std.specs.Option.{option_map}
 use Rattle.std.proofs.lemmas.List.{take-append-drop, append_assoc, drop_more, drop-drop, drop_all, take_all, length-drop, length_push}
-use Rattle.std.proofs.lemmas.Option.{slice_get_past}
-use Rattle.std.proofs.lemmas.Bool.{cases_eq}
+use Rattle.std.proofs.lemmas.Option.{slice_get_past, slice_get_read}
+use Rattle.std.proofs.Math.Seq.{get_or-append_seam}
+use Rattle.std.proofs.lemmas.Bool.{cases_eq, eqb-true, eqb-false}
 use Rattle.lines.specs.declared.reader.Line.{Line}
-use Rattle.lines.specs.Handed.{Handed, OneSplit, Stepped}
+use Rattle.lines.specs.declared.reader.Reader.{Reader}
+use Rattle.lines.specs.Handed.{Handed, OneSplit, Stepped, NextLine}
 use Rattle.lines.specs.Lines.{Span, span, Unbroken, FirstLine, ended, cut_off, Lines, none, more}
 use Rattle.lines.proofs.Split.{first_one, no-first, lines-cases, lines-one, lines-some}
 
@@ -115,11 +121,6 @@ past_more file x read at read' at' p f r on in' =
       count = length_push p.before (span (read + 1) at x) ∙ ap (λ k. k + 1) count;
     })
 
--- The element past those before it.
-nth_here : (before after : List Span) (sp : Span) → slice_get (before ++ (sp ∷ after)) (length before) ≡ Some sp
-nth_here [] after sp = refl
-nth_here (b ∷ bs) after sp = nth_here bs after sp
-
 -- The line at the reader's place is the next line of the file.
 pub past-line : (file x : List ℕ) (read at at' : ℕ) → Past file read at → FirstLine (drop at file) x (drop at' file) → at < at' → at' ≤ length file → (ls : List Span) × Lines 1 0 file ls × (slice_get ls read ≡ Some (span (read + 1) at x))
 past-line file x read at at' p f on in' =
@@ -128,7 +129,8 @@ past-line file x read at at' p f on in' =
       p.whole,
       ap (λ t. slice_get (p.before ++ t) read) n.1
           ∙ ap (λ k. slice_get (p.before ++ (span (read + 1) at x ∷ n.0)) k) (sym p.count)
-          ∙ nth_here p.before n.0 (span (read + 1) at x),
+          ∙ slice_get_read (p.before ++ (span (read + 1) at x ∷ n.0)) (length (p.before ++ (span (read + 1) at x ∷ n.0))) (length p.before) (span (read + 1) at x) refl
+              (simp length-append (omega arith)) (sym (get_or-append_seam p.before (span (read + 1) at x) n.0 (span (read + 1) at x))),
     )
 
 -- At the end of the file all lines are read.
@@ -139,46 +141,85 @@ past_all file read at p end =
     let sum = length-append p.before p.after in
     (p.before ++ p.after, p.whole, omega arith)
 
+-- What a call of the iterator's `next` does.
+abbrev pub Turn : Reader → Option Line → Reader → Type 0
+Turn s r t = (t.file ≡ s.file) × NextLine s.file s.read s.at r t.read t.at
+
 -- The reader goes on by the line that it hands out.
-pub past-step : (lent lent' : Bor (List ℕ)) (read at : ℕ) (l : Line) (read' at' : ℕ) → lent' ≡ lent → Past lent.now read at → Stepped lent read at l read' at' → Past lent'.now read' at'
-past-step lent lent' read at l read' at' same p s =
-    subst (λ f. Past f.now read' at') (sym same) (past_more lent.now l.bytes.now read at read' at' p s.first s.counted s.onward s.within)
+pub past-step : (s : Reader) (l : Line) (t : Reader) → Past s.file.now s.read s.at → Turn s (Some l) t → Past t.file.now t.read t.at
+past-step s l t p (same, h) =
+    subst (λ f. Past f.now t.read t.at) (sym same) (past_more s.file.now l.bytes.now s.read s.at t.read t.at p h.first h.counted h.onward h.within)
 
--- The line that the reader hands out is line k, if its number is k.
-pub hands : (file lent : Bor (List ℕ)) (k read at : ℕ) (l : Line) (read' at' : ℕ) → lent ≡ file → Past lent.now read at → Stepped lent read at l read' at' → l.place.line ≡ k → (ls : List Span) × Lines 1 0 file.now ls × Handed file ls k (Some l.bytes)
-hands file lent k read at l read' at' same p s e =
-    let P : Bor (List ℕ) → Type 0 = λ f. (ls : List Span) × Lines 1 0 f.now ls × Handed f ls k (Some l.bytes) in
-    let n = past-line lent.now l.bytes.now read at at' p s.first s.onward s.within in
-    let number = s.number in
-    let index : read ≡ k - 1 = omega arith in
-    subst P same (
-      n.0,
-      n.1,
-      (
-        span (read + 1) at l.bytes.now,
-        omega arith,
-        subst (λ i. slice_get n.0 i ≡ Some (span (read + 1) at l.bytes.now)) index n.2,
-        record { bytes = refl; block = s.block; byte = s.byte },
-      ),
-    )
+-- A reader that handed out some lines reads the same file, and has counted them.
+pub past-lines : (s : Reader) (xs : List Line) (t : Reader) → Past s.file.now s.read s.at → Yields Turn s xs t → (t.file ≡ s.file) × Past t.file.now t.read t.at × (t.read ≡ s.read + length xs)
+past-lines s [] t p y = subst (λ r. (r.file ≡ s.file) × Past r.file.now r.read r.at × (r.read ≡ s.read + 0)) y (refl, p, omega arith)
+past-lines s (x ∷ xs) t p (j, h, y) =
+    let (same, q, n) = past-lines j xs t (past-step s x j p h) y in let c = h.1.counted in (same ∙ h.0, q, omega arith)
 
--- Where no line that the reader handed out had the number k, there is no line k.
-pub hands_none : (file lent : Bor (List ℕ)) (k read at : ℕ) → lent ≡ file → Past lent.now read at → length lent.now ≤ at → (0 < k → read < k) → (ls : List Span) × Lines 1 0 file.now ls × Handed file ls k None
-hands_none file lent k read at same p end missed =
-    let P : Bor (List ℕ) → Type 0 = λ f. (ls : List Span) × Lines 1 0 f.now ls × Handed f ls k None in
-    let n = past_all lent.now read at p end in
-    let count = n.2 in
-    let beyond : (k ≡ 0) ⊎ (slice_get n.0 (k - 1) ≡ None)
-    = ⊎_elim (λ z. inl z) (λ z. inr (slice_get_past n.0 (k - 1) (let h : read < k = missed (omega arith) in omega arith))) (cases_eq k 0) in
-    subst P same (n.0, n.1, beyond)
+-- Where no line that it handed out has the number k, it has not come to line k.
+pub not-yet : (k : ℕ) (s : Reader) (xs : List Line) (t : Reader) → Yields Turn s xs t → AllByRecursion (λ l. l.place.line ≢ k) xs → (0 < k → s.read < k) → 0 < k → t.read < k
+not-yet k s [] t y a h = subst (λ r. 0 < k → r.read < k) y h
+not-yet k s (x ∷ xs) t (j, (same, n), y) (a, rest) h =
+    not-yet k j xs t y rest (λ pos. let l = h pos in let c = n.counted in let m = n.number in omega arith)
+
+-- A new reader has read nothing.
+module _ (file : Bor (List ℕ)) (s : Reader) (same : s.file ≡ file) (unread : s.read ≡ 0) (begins : s.at ≡ 0) where
+  lines-so-far : (xs : List Line) (t : Reader) → Yields Turn s xs t → (t.file ≡ file) × Past t.file.now t.read t.at × (t.read ≡ length xs)
+  lines-so-far xs t y =
+      let (e, p, n) = past-lines s xs t (past-none s.file.now s.read s.at unread begins) y in (e ∙ same, p, omega arith)
+
+  -- Where no line before it has the number k, the line that is handed out next is line k if it has that number, and there is no line k if none is left.
+  pub hands : (k : ℕ) (xs : List Line) (t : Reader) (r : Option Line) (u : Reader) → Yields Turn s xs t → Turn t r u → AllByRecursion (λ l. l.place.line ≢ k) xs → IfSome r (λ l. l.place.line ≡ k)
+      → (ls : List Span) × Lines 1 0 file.now ls × Handed file ls k (option_map (λ l. l.bytes) r)
+  hands k xs t None u y h missed hit =
+      let (e, p, n) = lines-so-far xs t y in
+      let late = not-yet k s xs t y missed (λ pos. omega arith) in
+      let (ls, l, count) = past_all t.file.now t.read t.at p h.1.0 in
+      let beyond : (k ≡ 0) ⊎ (slice_get ls (k - 1) ≡ None)
+      = ⊎_elim (λ z. inl z) (λ z. inr (slice_get_past ls (k - 1) (let m : t.read < k = late (omega arith) in omega arith))) (cases_eq k 0) in
+      (ls, subst (λ f. Lines 1 0 f.now ls) e l, beyond)
+  hands k xs t (Some l) u y h missed hit =
+      let (e, p, n) = lines-so-far xs t y in
+      let (ls, lines, here) = past-line t.file.now l.bytes.now t.read t.at u.at p h.1.first h.1.onward h.1.within in
+      let number = h.1.number in
+      let index : t.read ≡ k - 1 = omega arith in
+      let block : l.bytes.ref_ptr.0 ≡ file.ref_ptr.0 = h.1.block ∙ ap (λ f. f.ref_ptr.0) e in
+      let byte : l.bytes.ref_ptr.1 ≡ file.ref_ptr.1 + t.at = h.1.byte ∙ ap (λ f. f.ref_ptr.1 + t.at) e in (
+        ls,
+        subst (λ f. Lines 1 0 f.now ls) e lines,
+        (
+          span (t.read + 1) t.at l.bytes.now,
+          omega arith,
+          subst (λ i. slice_get ls i ≡ Some (span (t.read + 1) t.at l.bytes.now)) index here,
+          record { bytes = refl; block = block; byte = byte },
+        ),
+      )
+
+  -- The line that is found by its number is line k.
+  pub finds : {F : Type 0} (g : Mut F (Bor Line × Unit {0}) Bool) (f : F) (k : ℕ) (r : Option Line) (u : Reader) → FindsItem Turn g s f r u
+      → ((x : Line) (b : Bool) (q : F) → CalledAt g f x b q → (q ≡ f) × (b ≡ eqb x.place.line k))
+      → (ls : List Span) × Lines 1 0 file.now ls × Handed file ls k (option_map (λ l. l.bytes) r)
+  finds {F} g f k r u (xs, f', (t, y, h), calls, last) says =
+      let (kept, missed) = misses xs calls in hands k xs t r u y h missed (hits r last kept)
+    where
+      misses : (xs : List Line) → FoldsTo (λ p x q. CalledAt g p x false q) f xs f' → (f' ≡ f) × AllByRecursion (λ l. l.place.line ≢ k) xs
+      misses [] c = (sym c, tt)
+      misses (x ∷ xs) (j, h, c) =
+          let (e, b) = says x false j h in
+          let (e', rest) = misses xs (subst (λ p. FoldsTo (λ p x q. CalledAt g p x false q) p xs f') e c) in
+          (e', (eqb-false x.place.line k (sym b), rest))
+
+      hits : (r : Option Line) → IfSome r (λ x. (h : F) × CalledAt g f' x true h) → f' ≡ f → IfSome r (λ l. l.place.line ≡ k)
+      hits None c e = c
+      hits (Some x) (h, c) e = eqb-true x.place.line k (sym (says x true h (subst (λ p. CalledAt g p x true h) e c)).1)
+
+  -- All lines that it hands out are all lines of the file.
+  pub counts : (xs : List Line) → Drains Turn s xs → (ls : List Span) × Lines 1 0 file.now ls × (length xs ≡ length ls)
+  counts xs (u, (t, y, h)) =
+      let (e, p, n) = lines-so-far xs t y in
+      let (ls, l, count) = past_all t.file.now t.read t.at p h.1.0 in
+      (ls, subst (λ f. Lines 1 0 f.now ls) e l, sym n ∙ sym count)
 
 -- A file splits into lines in exactly one way.
 pub one_split : (xs : List ℕ) → OneSplit xs
 one_split xs = let ls = lines-some 1 0 xs in (ls.0, ls.1, λ ms h. lines-one 1 0 xs ms ls.0 h ls.1)
-
--- All lines that the reader has read are all lines of the file.
-pub counts : (file lent : Bor (List ℕ)) (n read at : ℕ) → lent ≡ file → Past lent.now read at → length lent.now ≤ at → n ≡ read → (ls : List Span) × Lines 1 0 file.now ls × (n ≡ length ls)
-counts file lent n read at same p end e =
-    let P : Bor (List ℕ) → Type 0 = λ f. (ls : List Span) × Lines 1 0 f.now ls × (n ≡ length ls) in
-    let a = past_all lent.now read at p end in
-    subst P same (a.0, a.1, e ∙ sym a.2)

@@ -15,25 +15,16 @@ pub fn line(file: &[u8], k: usize) -> Option<&[u8]>
     ensures handed { (ls : List Span) × Lines 1 0 file.now ls × Handed file.entry ls k result }
     ensures split { OneSplit file.now }
 {
-    let mut reader = Reader::new(file);
-    while let Some(found) = reader.next_line() {
-        if found.place.line == k {
-            return Some(found.bytes);
-        }
-    }
-    None
+    Reader::new(file)
+        .find(|line| line.place.line == k)
+        .map(|line| line.bytes)
 }
 
 // How many lines the file has.
 pub fn line_count(file: &[u8]) -> usize
     ensures { (ls : List Span) × Lines 1 0 file.now ls × (result ≡ length ls) }
 {
-    let mut reader = Reader::new(file);
-    let mut count = 0;
-    while let Some(_line) = reader.next_line() {
-        count += 1;
-    }
-    count
+    Reader::new(file).count()
 }
 
 #[cfg(test)]

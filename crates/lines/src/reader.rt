@@ -1,5 +1,6 @@
 // A reader that hands out a file's lines one after another.
-ghost use Rattle.std.specs.Prelude.{◌≡◌, ◌<◌, ◌≤◌, length, take, slice_index};
+ghost use Rattle.std.specs.Prelude.{◌≡◌, ◌-◌, ◌<◌, ◌≤◌, length, take, slice_index};
+ghost use Rattle.std.specs.Iterator.{at_most};
 ghost use Rattle.lines.specs.Lines.{Unbroken};
 ghost use Rattle.lines.specs.Handed.{NextLine};
 
@@ -70,16 +71,28 @@ impl<'a> Reader<'a> {
     }
 }
 
+impl<'a> Iterator for Reader<'a> {
+    type Item = Line<'a>;
+
+    // The file stays the same, and the line is the next unread one.
+    ghost next_gives = { λ s r t. (t.file ≡ s.file) × NextLine s.file s.read s.at r t.read t.at };
+
+    // A line takes at least one byte.
+    ghost remaining = { λ s. at_most (length s.file.now - s.at) };
+
+    fn next(&mut self) -> Option<Line<'a>> {
+        self.next_line()
+    }
+}
+
 // How many bytes come before the first byte 10, or all of them.
 fn line_len(bytes: &[u8]) -> usize
     ensures within { result ≤ length bytes.now }
     ensures unbroken { Unbroken (take result bytes.now) }
     ensures end { result < length bytes.now → slice_index bytes.now result ≡ 10 }
 {
-    for (i, b) in bytes.iter().enumerate() {
-        if *b == b'\n' {
-            return i;
-        }
-    }
-    bytes.len()
+    bytes
+        .iter()
+        .position(|b| *b == b'\n')
+        .unwrap_or(bytes.len())
 }

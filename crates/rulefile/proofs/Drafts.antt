@@ -1,6 +1,6 @@
 -- What a draft holds after the items of a line: by its bits it tells the items that name a thing again, and the rule that they mean.
 use Rattle.std.proofs.Common.{◌≡◌, ℕ, ◌^◌, Bool, true, false, not, ◌&&◌, ◌||◌, eqb, List, [], ◌∷◌, ◌++◌, is_some, Some, None, Option, unwrap_or, sym, refl, ap, ◌∙◌, ap₂, ⊎_elim, append_assoc, append-nil}
-use mathlib.Core.Bool.{and_comm, or_assoc, or-false, or-true}
+use mathlib.Core.Bool.{and_comm, or_assoc, or_comm, or-false, or-true}
 use lib.Bits.{bit_or}
 use Rattle.std.proofs.lemmas.Bool.{eqb-true, or_parts, and_cases, both_ways}
 use Rattle.ladders.specs.Sets.{holds}
@@ -110,14 +110,7 @@ floor-repeats (Some q) true k = refl
 floor-repeats (Some q) false k = refl
 
 turned : (a p b : Bool) → ((a || p) || b) ≡ ((p || b) || a)
-turned true true true = refl
-turned true true false = refl
-turned true false true = refl
-turned true false false = refl
-turned false true true = refl
-turned false true false = refl
-turned false false true = refl
-turned false false false = refl
+turned a p b = or_assoc a p b ∙ or_comm a (p || b)
 
 module _ (g : Grammar) (e : Effect) (is : List Item) (f : Follow g [] is) where
   needed_here : (c : ℕ) → holds (drafted (fresh e) is).needed c ≡ any (λ i. not i.barred && is_condition c i.name) is

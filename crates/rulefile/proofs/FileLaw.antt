@@ -1,15 +1,17 @@
 -- What the reader answers of a whole file is what the file says: the first place at fault, or the one list that it holds.
 use Rattle.std.proofs.Common.{◌≡◌, ℕ, zero, suc, ◌+◌, ◌-◌, ◌<◌, ◌≤◌, Bool, true, false, cond, ltb, List, [], ◌∷◌, ◌++◌, length, take, drop, Some, None, Ok, Err, Option, Result, sym, refl, ap, ◌∙◌, subst, ap₂, inl, inr, ⊎_elim, arith, Bor}
 use Rattle.std.specs.List.{slice_get, flat_map, AllByRecursion}
+use Rattle.std.specs.Option.{option_and_then}
 use Rattle.std.proofs.ByRecursion.{All-append}
 use Rattle.std.proofs.lemmas.List.{take-take}
 use Rattle.std.proofs.lemmas.Bool.{both_ways, cases_order, lt-ltb}
 use Rattle.lines.specs.Lines.{Span, span, Unbroken, ended, cut_off, Lines, none, more}
 use Rattle.lines.specs.declared.reader.Place.{Place}
-use Rattle.lines.proofs.Past.{lines_end, lines_step}
+use Rattle.lines.proofs.Past.{lines_end, lines_step, Turn}
 use Rattle.lines.proofs.Split.{lines-one, lines-some, lines-number, lines-apart}
 use Rattle.lines.specs.Handed.{Stepped}
 use Rattle.lines.specs.declared.reader.Line.{Line}
+use Rattle.lines.specs.declared.reader.Reader.{Reader}
 use Rattle.rules.specs.declared.rule.Effect.{Effect}
 use Rattle.rules.specs.declared.rule.Effect.TheVariants.{Permit, Deny}
 use Rattle.rules.specs.declared.rule.Rule.{Rule}
@@ -312,39 +314,39 @@ every-rule posts letter n e items few deny follow =
       ),
     )
 
--- No line at all.
-pub no_line : (file : List ℕ) → length file ≤ 0 → Headless file
-no_line file h = ([], (lines_end file 1 0 0 h, tt))
-
 -- The first line that a new reader hands out is line 1, and the lines ahead of it then are the others.
-module _ {file lent : Bor (List ℕ)} {read at : ℕ} {l : Line} {read' at' : ℕ} (same : lent ≡ file) (unread : read ≡ 0) (begins : at ≡ 0) (step : Stepped lent read at l read' at') where
+module _ {file : Bor (List ℕ)} (s t : Reader) (same : s.file ≡ file) (unread : s.read ≡ 0) (begins : s.at ≡ 0) where
   pub others : List Span
-  others = (lines-some (read' + 1) at' (drop at' file.now)).0
+  others = (lines-some (t.read + 1) t.at (drop t.at file.now)).0
 
-  pub ahead : Lines (read' + 1) at' (drop at' file.now) others
+  pub ahead : Lines (t.read + 1) t.at (drop t.at file.now) others
   unfolding others
-  ahead = (lines-some (read' + 1) at' (drop at' file.now)).1
+  ahead = (lines-some (t.read + 1) t.at (drop t.at file.now)).1
 
-  pub opened : Lines 1 0 file.now (span 1 0 l.bytes.now ∷ others)
-  opened =
-      lines_step file 0 0 l read' at' others
-      (subst (λ a. Stepped file 0 a l read' at') begins (subst (λ k. Stepped file k at l read' at') unread (subst (λ f. Stepped f read at l read' at') same step))) ahead
+  pub opened : (l : Line) → Turn s (Some l) t → Lines 1 0 file.now (span 1 0 l.bytes.now ∷ others)
+  opened l h =
+      lines_step file 0 0 l t.read t.at others
+      (subst (λ a. Stepped file 0 a l t.read t.at) begins (subst (λ k. Stepped file k s.at l t.read t.at) unread (subst (λ f. Stepped f s.read s.at l t.read t.at) same h.1))) ahead
 
-  pub wrong_first : None ≡ head_of l.bytes.now → Headless file.now
-  wrong_first e = (span 1 0 l.bytes.now ∷ others, (opened, subst (HeadSays l.bytes.now) (sym e) (head-says l.bytes.now)))
+  -- Without a first line that is a head, the file has none.
+  pub no-head : (first : Option Line) (told : Option (Letter × ℕ)) → Turn s first t → told ≡ option_and_then (λ l. head_of l.bytes.now) first → told ≡ None → Headless file.now
+  no-head None told h e n = let long = ap (λ f. length f.now) same in let end = h.1.0 in ([], (lines_end file.now 1 0 0 (omega arith), tt))
+  no-head (Some l) told h e n = (span 1 0 l.bytes.now ∷ others, (opened l h, subst (HeadSays l.bytes.now) (sym e ∙ n) (head-says l.bytes.now)))
 
   -- With the head told, what the other lines say is the answer.
-  pub answered : (posts k : ℕ) (slots slots' : List Rule) (letter : Letter) (n : ℕ) (after : Bor (List ℕ)) (r : Result ℕ FileFault) → Some (letter, n) ≡ head_of l.bytes.now → k ≡ posts → after ≡ lent
-      → ((ls : List Span) → Lines (read' + 1) at' (drop at' after.now) ls → RestSays (grammar letter n k) ls slots r slots')
+  pub answered : (posts k : ℕ) (slots slots' : List Rule) (letter : Letter) (n : ℕ) (first : Option Line) (told : Option (Letter × ℕ)) (r : Result ℕ FileFault) → Turn s first t
+      → told ≡ option_and_then (λ l. head_of l.bytes.now) first → told ≡ Some (letter, n) → k ≡ posts
+      → ((ls : List Span) → Lines (t.read + 1) t.at (drop t.at t.file.now) ls → RestSays (grammar letter n k) ls slots r slots')
       → Answers posts file.now slots (listing letter n r) slots'
-  answered posts k slots slots' letter n after r told count moved says =
+  answered posts k slots slots' letter n None told r h e m count says = let z : ◌≡◌ {A = ℕ} 0 1 = cc in absurd (omega arith)
+  answered posts k slots slots' letter n (Some l) told r h e m count says =
       concluded r
       (subst (λ m. RestSays (grammar letter n m) others slots r slots') count
-      (says others (subst (λ f. Lines (read' + 1) at' (drop at' f.now) others) (sym (moved ∙ same)) ahead)))
+      (says others (subst (λ f. Lines (t.read + 1) t.at (drop t.at f.now) others) (sym (h.0 ∙ same)) ahead)))
     where
       head-told : Head l.bytes.now letter n
-      head-told = subst (HeadSays l.bytes.now) (sym told) (head-says l.bytes.now)
+      head-told = subst (HeadSays l.bytes.now) (sym e ∙ m) (head-says l.bytes.now)
 
       concluded : (r : Result ℕ FileFault) → RestSays (grammar letter n posts) others slots r slots' → Answers posts file.now slots (listing letter n r) slots'
-      concluded (Ok c) h = listed posts file.now slots slots' (span 1 0 l.bytes.now) others letter n opened head-told c h
-      concluded (Err f) h = refused posts file.now slots slots' (span 1 0 l.bytes.now) others letter n opened head-told f h
+      concluded (Ok c) h' = listed posts file.now slots slots' (span 1 0 l.bytes.now) others letter n (opened l h) head-told c h'
+      concluded (Err f) h' = refused posts file.now slots slots' (span 1 0 l.bytes.now) others letter n (opened l h) head-told f h'

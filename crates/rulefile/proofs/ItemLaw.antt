@@ -12,12 +12,12 @@ use Rattle.rulefile.specs.declared.draft.Draft.{Draft}
 use Rattle.rulefile.specs.declared.faults.ItemFault.TheVariants.{NotDue, OutOfRange}
 use Rattle.rulefile.specs.declared.faults.LineFault.{LineFault}
 use Rattle.rulefile.specs.declared.faults.LineFault.TheVariants.{Item as InItem, Repeated, NotAllowed}
-use Rattle.rulefile.specs.Faults.{Kind, wrong-head, no-mark, not-due, out_of_range, repeated, not-allowed, no_slot, number, place, line_kind, line_place}
+use Rattle.rulefile.specs.Faults.{Kind, not-due, out_of_range, repeated, not-allowed, number, place, line_kind, line_place}
 use Rattle.rulefile.specs.Items.{name_of, item, spelled, again, Within, Fits}
 use Rattle.rulefile.specs.Faulty.{Begun, between, spaced, banged, begun, barring, Due, Amiss}
 use Rattle.rulefile.specs.Steps.{is_guarded, within, known_name, with_rest, item_of, new_item, next_place, after_bang, after_space, item_read, repeats}
 use Rattle.rulefile.proofs.Spelling.{name-byte, name-known}
-use Rattle.rulefile.proofs.Places.{Ready, bang-named}
+use Rattle.rulefile.proofs.Places.{Ready, Asks, NamedHere, named-here, by_kind, bang-named}
 
 pub guarded-true : (l : Letter) → is_guarded l ≡ true → l ≡ Guarded
 guarded-true Guarded h = refl
@@ -40,43 +40,21 @@ pub record Told (g : Grammar) (is : List Item) (part : Begun) (rest : List ℕ) 
   pub amiss : Amiss g is part rest kind
   pub least : (kind' : Kind) → Amiss g is part rest kind' → number kind ≤ number kind'
 
--- no fault of an item has a number below 3
-three : (g : Grammar) (is : List Item) (part : Begun) (rest : List ℕ) (kind : Kind) → Amiss g is part rest kind → 3 ≤ number kind
-three g is part rest wrong-head h = absurd h
-three g is part rest no-mark h = absurd h
-three g is part rest not-due h = omega arith
-three g is part rest out_of_range h = omega arith
-three g is part rest repeated h = omega arith
-three g is part rest not-allowed h = omega arith
-three g is part rest no_slot h = omega arith
-
 told-due : (g : Grammar) (is : List Item) (part : Begun) (rest : List ℕ) → (Due part rest → ⊥) → Told g is part rest not-due
-told-due g is part rest h = record { amiss = h; least = three g is part rest }
+told-due g is part rest h =
+    record {
+      amiss = h;
+      least = by_kind g is part rest (λ k. 3 ≤ number k) (λ _. omega arith) (λ x n w. omega arith) (λ x n w. omega arith) (λ n w. omega arith);
+    }
 
--- where something due stands, a number below 4 is out of the question
-four : (g : Grammar) (is : List Item) (part : Begun) (rest : List ℕ) → Due part rest → (kind : Kind) → Amiss g is part rest kind → 4 ≤ number kind
-four g is part rest d wrong-head h = absurd h
-four g is part rest d no-mark h = absurd h
-four g is part rest d not-due h = absurd (h d)
-four g is part rest d out_of_range h = omega arith
-four g is part rest d repeated h = omega arith
-four g is part rest d not-allowed h = omega arith
-four g is part rest d no_slot h = omega arith
-
-bang-least : (g : Grammar) (is : List Item) (rest : List ℕ) (kind : Kind) → Amiss g is spaced (33 ∷ rest) kind → 6 ≤ number kind
-bang-least g is rest wrong-head h = absurd h
-bang-least g is rest no-mark h = absurd h
-bang-least g is rest not-due h = absurd (h (inl refl))
-bang-least g is rest out_of_range (x, (n, w)) = absurd (bang-named x n)
-bang-least g is rest repeated (x, (n, w)) = absurd (bang-named x n)
-bang-least g is rest not-allowed h = omega arith
-bang-least g is rest no_slot h = omega arith
-
--- What is begun asks for a name, and the byte b names x.
-abbrev Asks : Begun → ℕ → Type 0
-Asks between b = ⊥
-Asks spaced b = b ≡ 33 → ⊥
-Asks banged b = Unit {0}
+told-bang : (g : Grammar) (is : List Item) (rest : List ℕ) → (g.letter ≡ Guarded → ⊥) → Told g is spaced (33 ∷ rest) not-allowed
+told-bang g is rest l =
+    record {
+      amiss = (refl, l);
+      least =
+          by_kind g is spaced (33 ∷ rest) (λ k. 6 ≤ number k) (λ h. absurd (h (inl refl))) (λ x n w. absurd (bang-named x n))
+          (λ x n w. absurd (bang-named x n)) (λ n w. omega arith);
+    }
 
 no_name : (part : Begun) (b : ℕ) (rest : List ℕ) → Asks part b → name_of b ≡ None → Due part (b ∷ rest) → ⊥
 no_name between b rest a n d = a
@@ -84,34 +62,23 @@ no_name spaced b rest a n (inl e) = a e
 no_name spaced b rest a n (inr (x, e)) = let z : ◌≡◌ {A = ℕ} 0 1 = cc in omega arith
 no_name banged b rest a n (x, e) = let z : ◌≡◌ {A = ℕ} 0 1 = cc in omega arith
 
-named-due : (part : Begun) (b : ℕ) (x : Name) (rest : List ℕ) → Asks part b → name_of b ≡ Some x → Due part (b ∷ rest)
-named-due between b x rest a n = absurd a
-named-due spaced b x rest a n = inr (x, n)
-named-due banged b x rest a n = (x, n)
+-- The name x stands where a name is due.
+module _ (g : Grammar) (is : List Item) (part : Begun) (rest : List ℕ) (x : Name) (here : NamedHere part rest x) where
+  told-range : (Within g x → ⊥) → Told g is part rest out_of_range
+  told-range w =
+      record {
+        amiss = (x, (here.named, w));
+        least = by_kind g is part rest (λ k. 4 ≤ number k) (λ h. absurd (h here.due)) (λ y n v. omega arith) (λ y n v. omega arith) (λ n v. omega arith);
+      }
 
-told-range : (g : Grammar) (is : List Item) (part : Begun) (b : ℕ) (x : Name) (rest : List ℕ) → Asks part b → name_of b ≡ Some x → (Within g x → ⊥) → Told g is part (b ∷ rest) out_of_range
-told-range g is between b x rest a n w = absurd a
-told-range g is spaced b x rest a n w = record { amiss = (x, (n, w)); least = four g is spaced (b ∷ rest) (inr (x, n)) }
-told-range g is banged b x rest a n w = record { amiss = (x, (n, w)); least = four g is banged (b ∷ rest) (x, n) }
-
-same-name : (b : ℕ) (x y : Name) → name_of b ≡ Some x → name_of b ≡ Some y → x ≡ y
-same-name b x y e f = cc
-
-five : (g : Grammar) (is : List Item) (part : Begun) (b : ℕ) (x : Name) (rest : List ℕ) → Asks part b → name_of b ≡ Some x → Within g x → (kind : Kind) → Amiss g is part (b ∷ rest) kind → 5 ≤ number kind
-five g is part b x rest a n w wrong-head h = absurd h
-five g is part b x rest a n w no-mark h = absurd h
-five g is part b x rest a n w not-due h = absurd (h (named-due part b x rest a n))
-five g is between b x rest a n w out_of_range h = absurd a
-five g is spaced b x rest a n w out_of_range (y, (m, v)) = absurd (v (subst (Within g) (same-name b x y n m) w))
-five g is banged b x rest a n w out_of_range (y, (m, v)) = absurd (v (subst (Within g) (same-name b x y n m) w))
-five g is part b x rest a n w repeated h = omega arith
-five g is part b x rest a n w not-allowed h = omega arith
-five g is part b x rest a n w no_slot h = omega arith
-
-told-again : (g : Grammar) (is : List Item) (part : Begun) (b : ℕ) (x : Name) (rest : List ℕ) → Asks part b → name_of b ≡ Some x → Within g x → again is (item (barring part) x) ≡ true → Told g is part (b ∷ rest) repeated
-told-again g is between b x rest a n w h = absurd a
-told-again g is spaced b x rest a n w h = record { amiss = (x, (n, h)); least = five g is spaced b x rest a n w }
-told-again g is banged b x rest a n w h = record { amiss = (x, (n, h)); least = five g is banged b x rest a n w }
+  told-again : Within g x → again is (item (barring part) x) ≡ true → Told g is part rest repeated
+  told-again w h =
+      record {
+        amiss = (x, (here.named, h));
+        least =
+            by_kind g is part rest (λ k. 5 ≤ number k) (λ d. absurd (d here.due)) (λ y n v. absurd (v (subst (Within g) (here.only y n) w)))
+            (λ y n v. omega arith) (λ n v. omega arith);
+      }
 
 -- What an answer says of the bytes xs that follow the items `is` and what is begun of one more.
 abbrev pub Reads : Grammar → List Item → Begun → List ℕ → Place → Result (Item × List ℕ) LineFault → Type 0
@@ -138,9 +105,9 @@ module _ (g : Grammar) (is : List Item) (d : Draft) (same : (i : Item) → repea
       cond_both (within g x) (Ok x) (Err (OutOfRange p)) (λ v. Reads g is part (b ∷ rest) p (item_of d (barring part) p (with_rest rest v)))
       (λ t.
       cond_both (repeats d (item (barring part) x)) (Err (Repeated p)) (Ok (item (barring part) x, rest)) (Reads g is part (b ∷ rest) p)
-      (λ h. (refl, told-again g is part b x rest a n (within-true g x t) (sym (same (item (barring part) x)) ∙ h)))
+      (λ h. (refl, told-again g is part (b ∷ rest) x (named-here part b x rest a n) (within-true g x t) (sym (same (item (barring part) x)) ∙ h)))
       (λ h. fitting part b x rest p r a n (within-true g x t) (sym (same (item (barring part) x)) ∙ h)))
-      (λ t. (refl, told-range g is part b x rest a n (within-false g x t)))
+      (λ t. (refl, told-range g is part (b ∷ rest) x (named-here part b x rest a n) (within-false g x t)))
 
   -- What an answer says of the bytes xs, of which the first has the place p, that follow the items.
   abbrev pub ItemSays : List ℕ → Place → Result (Item × List ℕ) LineFault → Type 0
@@ -173,7 +140,7 @@ module _ (g : Grammar) (is : List Item) (d : Draft) (same : (i : Item) → repea
       (λ t. banged-says rest p (guarded-true g.letter t))
       (λ t.
       says spaced (32 ∷ (33 ∷ rest)) (33 ∷ rest) p (next_place p) (Err (NotAllowed (next_place p))) refl tt refl
-      (refl, record { amiss = (refl, guarded-false g.letter t); least = bang-least g is rest }))
+      (refl, told-bang g is rest (guarded-false g.letter t)))
 
   space-says : (rest : List ℕ) (p : Place) → ItemSays (32 ∷ rest) p (after_space g d rest (next_place p))
   space-says [] p = says spaced (32 ∷ []) [] p (next_place p) (Err (InItem (NotDue (next_place p)))) refl tt refl (refl, told-due g is spaced [] (λ x. x))

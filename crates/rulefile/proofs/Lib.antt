@@ -1,6 +1,7 @@
 pub mod Spelling
 pub mod Drafts
 pub mod Places
+pub mod Onward
 pub mod ItemLaw
 pub mod LineLaw
 pub mod Walk

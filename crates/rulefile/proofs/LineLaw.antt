@@ -1,8 +1,9 @@
 -- What the reader answers of a whole line is what the line says.
-use Rattle.std.proofs.Common.{◌≡◌, ℕ, suc, ◌+◌, ◌<◌, ◌≤◌, Bool, true, false, cond, eqb, List, [], ◌∷◌, ◌++◌, length, Ok, Err, Result, sym, refl, ap, ◌∙◌, subst, ap₂, inl, inr, ⊎_elim, append_assoc, append-nil, add-zero, arith, length-append}
+use Rattle.std.proofs.Common.{◌≡◌, ℕ, suc, ◌+◌, ◌<◌, ◌≤◌, Bool, true, false, cond, eqb, List, [], ◌∷◌, ◌++◌, length, ◌≢◌, Some, None, Ok, Err, Option, Result, sym, refl, ap, ◌∙◌, subst, ap₂, inl, inr, ⊎_elim, append_assoc, append-nil, add-zero, arith, length-append}
 use Rattle.std.specs.List.{flat_map, AllByRecursion}
 use Rattle.std.proofs.lemmas.List.{nil_from_length, flat_map_more}
 use Rattle.std.proofs.lemmas.Bool.{both_ways, cond_both, eqb-true, eqb-false}
+use Rattle.lines.specs.declared.reader.Line.{Line as ReadLine}
 use Rattle.lines.specs.declared.reader.Place.{Place}
 use Rattle.rules.specs.declared.rule.Effect.{Effect}
 use Rattle.rules.specs.declared.rule.Effect.TheVariants.{Permit, Deny}
@@ -11,17 +12,27 @@ use Rattle.rules.specs.declared.letter.Letter.TheVariants.{Guarded}
 use Rattle.rulefile.specs.declared.grammar.Grammar.{Grammar}
 use Rattle.rulefile.specs.declared.grammar.Item.{Item}
 use Rattle.rulefile.specs.declared.draft.Draft.{Draft}
+use Rattle.rulefile.specs.declared.items.ItemReader.{ItemReader}
+use Rattle.rulefile.specs.declared.faults.FileFault.{FileFault}
 use Rattle.rulefile.specs.declared.faults.LineFault.{LineFault}
 use Rattle.rulefile.specs.declared.faults.LineFault.TheVariants.{NoMark, NotAllowed}
 use Rattle.rulefile.specs.declared.faults.FileFault.TheVariants.{Line, NoSlot}
-use Rattle.rulefile.specs.Faults.{Kind, wrong-head, no-mark, not-due, out_of_range, repeated, not-allowed, no_slot, number, place, line_kind, line_place}
+use Rattle.rulefile.specs.Faults.{Kind, wrong-head, no-mark, not-due, out_of_range, repeated, not-allowed, no_slot, number, place, line_kind, line_place, kind_of, place_of}
 use Rattle.rulefile.specs.Items.{Known, spelled, again, Follow, mark_of, Means, Spells}
 use Rattle.rulefile.specs.Faulty.{Begun, begun, Amiss, InItems, AtMark, FirstFault}
-use Rattle.rulefile.specs.RuleLines.{LineSays}
-use Rattle.rulefile.specs.Steps.{fresh, is_guarded, item_read, ItemsRead, end, bad, more, with_item, drafted, finished, next_place, mark_read, repeats, in_file}
+use Rattle.rulefile.specs.RuleLines.{silent}
+use Rattle.rulefile.specs.Steps.{fresh, is_guarded, ItemsRead, end, bad, more, with_item, drafted, finished, next_place, mark_read, repeats, in_file, at, Opened, Unopened}
 use Rattle.rulefile.proofs.Drafts.{repeats-again, means-drafted, drafted-effect, drafted-push, follow-push}
+use Rattle.rulefile.proofs.Onward.{item-shorter}
 use Rattle.rulefile.proofs.Places.{Ready, first-place}
 use Rattle.rulefile.proofs.ItemLaw.{Told, ItemSays, item-says, guarded-true, guarded-false}
+
+-- The line x, whose first byte has the place p, says r.
+abbrev pub LineSays : Grammar → Bool → Place → List ℕ → Result (Option Rule) FileFault → Type 0
+LineSays g room p x (Ok None) = silent x ≡ true
+LineSays g room p x (Ok (Some t)) = (silent x ≡ false) × ((room ≡ true) × Spells g x t)
+LineSays g room p x (Err f) =
+    (silent x ≡ false) × ((j : ℕ) × ((place_of f ≡ place p.line (p.offset + j)) × FirstFault g room x j (kind_of f)))
 
 pub follow-known : (g : Grammar) (before is : List Item) → Follow g before is → AllByRecursion (λ i. Known i.name) is
 follow-known g before [] f = tt
@@ -48,10 +59,6 @@ first-told g m is part rest kind f r t = (
       (omega arith, λ same. t.least kind' (subst (λ js. Amiss g js part rest kind') (sym p.0) (subst (λ b. Amiss g w.items b rest kind') (sym p.1.0) (subst (λ xs. Amiss g w.items w.part xs kind') (sym p.1.1) w.amiss)))))
       (first-place g [] is part rest w.items w.part w.rest kind' f r w.known e w.amiss),
 )
-
-itemed : (g : Grammar) (d : Draft) (xs : List ℕ) (q : Place) (i : Item) (rest : List ℕ) → item_read g d xs q ≡ Ok (i, rest) → 0 < length xs
-itemed g d [] q i rest k = let z : ◌≡◌ {A = ℕ} 0 1 = cc in absurd (omega arith)
-itemed g d (b ∷ xs) q i rest k = omega arith
 
 module _ (g : Grammar) (e : Effect) (m : ℕ) (x : List ℕ) (p : Place) where
   -- What an answer says of the line's bytes x after the mark m, whose place is p.
@@ -83,8 +90,8 @@ module _ (g : Grammar) (e : Effect) (m : ℕ) (x : List ℕ) (p : Place) where
       at-fault is xs q k b f at (subst (ItemSays g is d same xs q) r (item-says g is d same xs q h))
   items_give {d} {xs} {q} {r} (more i rest k next) is b f s at =
       let same : (i : Item) → repeats d i ≡ again is i = λ i. ap (λ c. repeats c i) s ∙ repeats-again g e is f i in
-      let some : 0 < length xs = itemed g d xs q i rest k in
-      let (c, fits) = subst (ItemSays g is d same xs q) k (item-says g is d same xs q some) in
+      let less = item-shorter g d xs q i rest k in
+      let (c, fits) = subst (ItemSays g is d same xs q) k (item-says g is d same xs q (omega arith)) in
       let push = joined-push is i in
       items_give next (is ++ (i ∷ []))
       (b ∙ ap (λ ys. flat_map spelled is ++ ys) c ∙ sym (append_assoc (flat_map spelled is) (spelled i) rest) ∙ ap (λ ys. ys ++ rest) (sym push))
@@ -100,23 +107,17 @@ MarkSays g b p (Ok e) = (b ≡ mark_of e) × (g.letter ≡ Guarded → e ≡ Per
 MarkSays g b p (Err f) =
     (line_place f ≡ p) × ((room : Bool) (rest : List ℕ) → AtMark g room (b ∷ rest) (line_kind f) × ((kind : Kind) → AtMark g room (b ∷ rest) kind → number (line_kind f) ≤ number kind))
 
-two : (g : Grammar) (room : Bool) (b : ℕ) (rest : List ℕ) (kind : Kind) → AtMark g room (b ∷ rest) kind → 2 ≤ number kind
-two g room b rest wrong-head h = absurd h
-two g room b rest no-mark h = omega arith
-two g room b rest not-due h = omega arith
-two g room b rest out_of_range h = omega arith
-two g room b rest repeated h = omega arith
-two g room b rest not-allowed h = omega arith
-two g room b rest no_slot h = omega arith
-
-six : (g : Grammar) (room : Bool) (b : ℕ) (rest : List ℕ) (kind : Kind) → b ≡ 45 → AtMark g room (b ∷ rest) kind → 6 ≤ number kind
-six g room b rest wrong-head e h = absurd h
-six g room b rest no-mark e h = absurd (h.1 e)
-six g room b rest not-due e h = absurd h
-six g room b rest out_of_range e h = absurd h
-six g room b rest repeated e h = absurd h
-six g room b rest not-allowed e h = omega arith
-six g room b rest no_slot e h = omega arith
+-- A fault at a mark is of one of three kinds.
+module _ (g : Grammar) (room : Bool) (b : ℕ) (rest : List ℕ) (P : Kind → Type 0) where
+  mark-kind : ((b ≢ 43) × (b ≢ 45) → P no-mark) → ((g.letter ≡ Guarded) × (b ≡ 45) → P not-allowed) → (room ≡ false → P no_slot)
+      → (kind : Kind) → AtMark g room (b ∷ rest) kind → P kind
+  mark-kind wrong deny full wrong-head h = absurd h
+  mark-kind wrong deny full no-mark h = wrong h
+  mark-kind wrong deny full not-due h = absurd h
+  mark-kind wrong deny full out_of_range h = absurd h
+  mark-kind wrong deny full repeated h = absurd h
+  mark-kind wrong deny full not-allowed h = deny h
+  mark-kind wrong deny full no_slot h = full h
 
 pub mark-says : (g : Grammar) (b : ℕ) (p : Place) → MarkSays g b p (mark_read g b p)
 mark-says g b p =
@@ -126,20 +127,19 @@ mark-says g b p =
     cond_both (eqb b 45) (cond (is_guarded g.letter) (Err (NotAllowed p)) (Ok Deny)) (Err (NoMark p)) (MarkSays g b p)
     (λ u.
     cond_both (is_guarded g.letter) (Err (NotAllowed p)) (Ok Deny) (MarkSays g b p)
-    (λ l. (refl, λ room rest. ((guarded-true g.letter l, eqb-true b 45 u), λ kind. six g room b rest kind (eqb-true b 45 u))))
+    (λ l. (refl, λ room rest. ((guarded-true g.letter l, eqb-true b 45 u), mark-kind g room b rest (λ k. 6 ≤ number k) (λ h. absurd (h.1 (eqb-true b 45 u))) (λ h. omega arith) (λ h. omega arith))))
     (λ l. (eqb-true b 45 u, λ e. absurd (guarded-false g.letter l e))))
-    (λ u. (refl, λ room rest. ((eqb-false b 43 t, eqb-false b 45 u), two g room b rest))))
+    (λ u. (refl, λ room rest. ((eqb-false b 43 t, eqb-false b 45 u), mark-kind g room b rest (λ k. 2 ≤ number k) (λ h. omega arith) (λ h. omega arith) (λ h. omega arith)))))
 
 -- At a mark that may stand there only the want of a slot can be at fault.
 pub marked : (g : Grammar) (room : Bool) (b : ℕ) (rest : List ℕ) (e : Effect) (kind : Kind) → b ≡ mark_of e → (g.letter ≡ Guarded → e ≡ Permit) → AtMark g room (b ∷ rest) kind → (room ≡ false) × (number kind ≡ 7)
-marked g room b rest e wrong-head m l h = absurd h
-marked g room b rest Permit no-mark m l h = absurd (h.0 m)
-marked g room b rest Deny no-mark m l h = absurd (h.1 m)
-marked g room b rest e not-due m l h = absurd h
-marked g room b rest e out_of_range m l h = absurd h
-marked g room b rest e repeated m l h = absurd h
-marked g room b rest e not-allowed m l h = let p : mark_of e ≡ 43 = ap mark_of (l h.0) in let q = h.1 in absurd (omega arith)
-marked g room b rest e no_slot m l h = (h, refl)
+marked g room b rest e kind m l =
+    mark-kind g room b rest (λ k. (room ≡ false) × (number k ≡ 7)) (λ h. absurd (a-mark e m h)) (λ h. let p : mark_of e ≡ 43 = ap mark_of (l h.0) in let q = h.1 in absurd (omega arith))
+    (λ h. (h, refl)) kind
+  where
+    a-mark : (e : Effect) → b ≡ mark_of e → (b ≢ 43) × (b ≢ 45) → ⊥
+    a-mark Permit m h = h.0 m
+    a-mark Deny m h = h.1 m
 
 module _ (g : Grammar) (room : Bool) (p : Place) (b : ℕ) (rest : List ℕ) (loud : eqb b 35 ≡ false) where
   here : p ≡ place p.line (p.offset + 0)
@@ -202,3 +202,19 @@ module _ (g : Grammar) (room : Bool) (p : Place) (b : ℕ) (rest : List ℕ) (lo
   pub itemed-line : (e : Effect) (r : Result Rule LineFault) → mark_read g b p ≡ Ok e → room ≡ true → ItemsRead g (fresh e) rest (next_place p) r → LineSays g room p (b ∷ rest) (in_file r)
   itemed-line e r m full h =
       let (c, l) = subst (MarkSays g b p) m (mark-says g b p) in concluded e r full c l (items_give g e b rest p h [] refl tt refl refl)
+
+-- What a line says by how it begins.
+module _ (g : Grammar) (room : Bool) (l : ReadLine) where
+  pub unopened-line : (f : LineFault) → Unopened g l f → LineSays g room l.place l.bytes.now (Err (Line f))
+  unopened-line f u = subst (λ xs. LineSays g room l.place xs (Err (Line f))) (sym u.bytes) (wrong-mark g room l.place u.mark u.rest u.loud f u.read)
+
+  module _ (s : ItemReader) (o : Opened g l s) where
+    pub slotless-line : room ≡ false → LineSays g room l.place l.bytes.now (Err (NoSlot l.place))
+    slotless-line r = subst (λ xs. LineSays g room l.place xs (Err (NoSlot l.place))) (sym o.bytes) (slotless g room l.place o.mark s.rest.now o.loud o.effect o.read r)
+
+    pub opened-line : (r : Result Rule LineFault) → room ≡ true → ItemsRead s.grammar s.draft s.rest.now (at s) r → LineSays g room l.place l.bytes.now (in_file r)
+    opened-line r full h =
+        subst (λ xs. LineSays g room l.place xs (in_file r)) (sym o.bytes)
+        (itemed-line g room l.place o.mark s.rest.now o.loud o.effect r o.read full
+        (subst (λ p. ItemsRead g (fresh o.effect) s.rest.now p r) o.place
+        (subst (λ d. ItemsRead g d s.rest.now (at s) r) o.draft (subst (λ k. ItemsRead k s.draft s.rest.now (at s) r) o.grammar h))))

@@ -1,5 +1,5 @@
 -- Which places of a line are not at fault: none within items that may stand there.
-use Rattle.std.proofs.Common.{◌≡◌, ℕ, ◌<◌, Bool, true, false, ◌⊎◌, List, [], ◌∷◌, ◌++◌, length, Some, sym, refl, ap, ◌∙◌, subst, ap₂, inl, inr, ⊎_elim, append_assoc, append-nil, arith, length-append}
+use Rattle.std.proofs.Common.{◌≡◌, ℕ, ◌<◌, Bool, true, false, ◌⊎◌, List, [], ◌∷◌, ◌++◌, length, Some, ◌≢◌, sym, refl, ap, ◌∙◌, subst, ap₂, inl, inr, ⊎_elim, append_assoc, append-nil, arith, length-append}
 use Rattle.std.specs.List.{flat_map, AllByRecursion}
 use Rattle.std.proofs.lemmas.Bool.{both_ways}
 use Rattle.rules.specs.declared.letter.Letter.TheVariants.{Guarded}
@@ -8,53 +8,66 @@ use Rattle.rulefile.specs.declared.grammar.Name.{Name}
 use Rattle.rulefile.specs.declared.grammar.Item.{Item}
 use Rattle.rulefile.specs.Faults.{Kind, wrong-head, no-mark, not-due, out_of_range, repeated, not-allowed, no_slot}
 use Rattle.rulefile.specs.Items.{name_of, byte_of, Known, item, text, spelled, again, Within, Fits, Follow}
-use Rattle.rulefile.specs.Faulty.{Begun, between, spaced, banged, begun, Amiss}
+use Rattle.rulefile.specs.Faulty.{Begun, between, spaced, banged, begun, barring, Due, Named, Bang, Amiss}
 use Rattle.rulefile.proofs.Spelling.{byte-name, no-bang, text_same}
+
+-- A fault of an item is of one of four kinds.
+module _ (g : Grammar) (is : List Item) (part : Begun) (rest : List ℕ) (P : Kind → Type 0) where
+  pub by_kind : ((Due part rest → ⊥) → P not-due)
+      → ((x : Name) → Named part rest x → (Within g x → ⊥) → P out_of_range)
+      → ((x : Name) → Named part rest x → again is (item (barring part) x) ≡ true → P repeated)
+      → (Bang part rest → g.letter ≢ Guarded → P not-allowed)
+      → (kind : Kind) → Amiss g is part rest kind → P kind
+  by_kind due range twice bang wrong-head h = absurd h
+  by_kind due range twice bang no-mark h = absurd h
+  by_kind due range twice bang not-due h = due h
+  by_kind due range twice bang out_of_range (x, (n, w)) = range x n w
+  by_kind due range twice bang repeated (x, (n, w)) = twice x n w
+  by_kind due range twice bang not-allowed (n, w) = bang n w
+  by_kind due range twice bang no_slot h = absurd h
+
+-- What is begun asks for a name where the byte b stands.
+abbrev pub Asks : Begun → ℕ → Type 0
+Asks between b = ⊥
+Asks spaced b = b ≡ 33 → ⊥
+Asks banged b = Unit {0}
+
+-- The name x, and no other, and no ! stands first in the rest of the line, and is due there.
+pub record NamedHere (part : Begun) (rest : List ℕ) (x : Name) : Type 0 where
+  pub due : Due part rest
+  pub named : Named part rest x
+  pub only : (y : Name) → Named part rest y → x ≡ y
+  pub plain : Bang part rest → ⊥
+
+same-name : (b : ℕ) (x y : Name) → name_of b ≡ Some x → name_of b ≡ Some y → x ≡ y
+same-name b x y e f = cc
+
+pub named-here : (part : Begun) (b : ℕ) (x : Name) (rest : List ℕ) → Asks part b → name_of b ≡ Some x → NamedHere part (b ∷ rest) x
+named-here between b x rest a n = absurd a
+named-here spaced b x rest a n = record { due = inr (x, n); named = n; only = λ y m. same-name b x y n m; plain = a }
+named-here banged b x rest a n = record { due = (x, n); named = n; only = λ y m. same-name b x y n m; plain = λ h. h }
 
 -- a space between items is not at fault
 space-due : (g : Grammar) (is : List Item) (rest : List ℕ) (kind : Kind) → Amiss g is between (32 ∷ rest) kind → ⊥
-space-due g is rest wrong-head h = h
-space-due g is rest no-mark h = h
-space-due g is rest not-due h = h refl
-space-due g is rest out_of_range (x, (n, w)) = n
-space-due g is rest repeated (x, (n, w)) = n
-space-due g is rest not-allowed (n, w) = n
-space-due g is rest no_slot h = h
+space-due g is rest = by_kind g is between (32 ∷ rest) (λ _. ⊥) (λ h. h refl) (λ x n w. n) (λ x n w. n) (λ n w. n)
 
 pub bang-named : (x : Name) → name_of 33 ≡ Some x → ⊥
 bang-named x e = let z : ◌≡◌ {A = ℕ} 0 1 = cc in omega arith
 
 -- nor is a ! after a space, in a guarded list
 bang-due : (g : Grammar) (is : List Item) (rest : List ℕ) (kind : Kind) → g.letter ≡ Guarded → Amiss g is spaced (33 ∷ rest) kind → ⊥
-bang-due g is rest wrong-head l h = h
-bang-due g is rest no-mark l h = h
-bang-due g is rest not-due l h = h (inl refl)
-bang-due g is rest out_of_range l (x, (n, w)) = bang-named x n
-bang-due g is rest repeated l (x, (n, w)) = bang-named x n
-bang-due g is rest not-allowed l (n, w) = w l
-bang-due g is rest no_slot l h = h
-
-same-named : (x y : Name) → Known x → name_of (byte_of x) ≡ Some y → x ≡ y
-same-named x y k e = let b = byte-name x k in cc
+bang-due g is rest kind l = by_kind g is spaced (33 ∷ rest) (λ _. ⊥) (λ h. h (inl refl)) (λ x n w. bang-named x n) (λ x n w. bang-named x n) (λ n w. w l) kind
 
 -- nor is the name of an item that fits
-name-due : (g : Grammar) (is : List Item) (x : Name) (rest : List ℕ) (kind : Kind) → Fits g is (item false x) → Amiss g is spaced (byte_of x ∷ rest) kind → ⊥
-name-due g is x rest wrong-head f h = h
-name-due g is x rest no-mark f h = h
-name-due g is x rest not-due f h = h (inr (x, byte-name x f.known))
-name-due g is x rest out_of_range f (y, (n, w)) = w (subst (Within g) (same-named x y f.known n) f.within)
-name-due g is x rest repeated f (y, (n, w)) = both_ways (again is (item false x)) f.new (rw (sym (same-named x y f.known n)) at w)
-name-due g is x rest not-allowed f (n, w) = no-bang x f.known n
-name-due g is x rest no_slot f h = h
-
-barred-due : (g : Grammar) (is : List Item) (x : Name) (rest : List ℕ) (kind : Kind) → Fits g is (item true x) → Amiss g is banged (byte_of x ∷ rest) kind → ⊥
-barred-due g is x rest wrong-head f h = h
-barred-due g is x rest no-mark f h = h
-barred-due g is x rest not-due f h = h (x, byte-name x f.known)
-barred-due g is x rest out_of_range f (y, (n, w)) = w (subst (Within g) (same-named x y f.known n) f.within)
-barred-due g is x rest repeated f (y, (n, w)) = both_ways (again is (item true x)) f.new (rw (sym (same-named x y f.known n)) at w)
-barred-due g is x rest not-allowed f (n, w) = n
-barred-due g is x rest no_slot f h = h
+name-due : (g : Grammar) (is : List Item) (part : Begun) (x : Name) (rest : List ℕ) (kind : Kind) → Asks part (byte_of x) → Fits g is (item (barring part) x) → Amiss g is part (byte_of x ∷ rest) kind → ⊥
+name-due g is part x rest kind a f =
+    let here = named-here part (byte_of x) x rest a (byte-name x f.known) in
+    by_kind g is part (byte_of x ∷ rest) (λ _. ⊥)
+    (λ h. h here.due)
+    (λ y n w. w (subst (Within g) (here.only y n) f.within))
+    (λ y n w. both_ways (again is (item (barring part) x)) f.new (rw (sym (here.only y n)) at w))
+    (λ n w. here.plain n)
+    kind
 
 -- no place in the text of an item that fits is at fault
 item-due : (g : Grammar) (is : List Item) (b : Bool) (x : Name) (part : Begun) (rest more : List ℕ) (kind : Kind) → Fits g is (item b x) → text b x ++ more ≡ begun part ++ rest → Amiss g is part rest kind → ⊥
@@ -63,9 +76,9 @@ item-due g is false x between rest more kind f e h = space-due g is (byte_of x �
 item-due g is true x spaced rest more kind f e h =
     let t : 33 ∷ (byte_of x ∷ more) ≡ rest = cc in bang-due g is (byte_of x ∷ more) kind (f.bar refl) (subst (λ r. Amiss g is spaced r kind) (sym t) h)
 item-due g is false x spaced rest more kind f e h =
-    let t : byte_of x ∷ more ≡ rest = cc in name-due g is x more kind f (subst (λ r. Amiss g is spaced r kind) (sym t) h)
+    let t : byte_of x ∷ more ≡ rest = cc in name-due g is spaced x more kind (no-bang x f.known) f (subst (λ r. Amiss g is spaced r kind) (sym t) h)
 item-due g is true x banged rest more kind f e h =
-    let t : byte_of x ∷ more ≡ rest = cc in barred-due g is x more kind f (subst (λ r. Amiss g is banged r kind) (sym t) h)
+    let t : byte_of x ∷ more ≡ rest = cc in name-due g is banged x more kind tt f (subst (λ r. Amiss g is banged r kind) (sym t) h)
 item-due g is false x banged rest more kind f e h = let t : byte_of x ≡ 33 = cc in no-bang x f.known t
 
 -- What is begun of an item may be begun: a ! only in a guarded list.

@@ -11,23 +11,17 @@ use Rattle.rulefile.specs.declared.grammar.Grammar.{Grammar}
 use Rattle.rulefile.specs.declared.grammar.Name.{Name}
 use Rattle.rulefile.specs.declared.grammar.Name.TheVariants.{Condition, Post}
 use Rattle.rulefile.specs.declared.grammar.Item.{Item}
-use Rattle.rulefile.specs.Faults.{Kind, wrong-head, no-mark, not-due, out_of_range, repeated, not-allowed, no_slot}
+use Rattle.rulefile.specs.Faults.{Kind}
 use Rattle.rulefile.specs.Items.{Known, item, spelled, any, is_post, digit, plain_digit, Means, mark_of, Spells}
 use Rattle.rulefile.specs.Faulty.{between, begun, Amiss, AtMark, Fault}
 use Rattle.rulefile.specs.RuleLines.{silent}
-use Rattle.rulefile.proofs.Places.{first-place}
+use Rattle.rulefile.proofs.Places.{by_kind, first-place}
 use Rattle.rulefile.proofs.LineLaw.{follow-known, marked}
 use Rattle.rulefile.proofs.Spelling.{text_same}
 
 -- the end of the line between items is not at fault
 end-due : (g : Grammar) (is : List Item) (kind : Kind) → Amiss g is between [] kind → ⊥
-end-due g is wrong-head h = h
-end-due g is no-mark h = h
-end-due g is not-due h = h tt
-end-due g is out_of_range (x, (n, w)) = n
-end-due g is repeated (x, (n, w)) = n
-end-due g is not-allowed (n, w) = n
-end-due g is no_slot h = h
+end-due g is = by_kind g is between [] (λ _. ⊥) (λ h. h tt) (λ x n w. n) (λ x n w. n) (λ n w. n)
 
 pub faultless : (g : Grammar) (room : Bool) (x : List ℕ) (t : Rule) (j : ℕ) (kind : Kind) → Spells g x t → room ≡ true → Fault g room x j kind → ⊥
 faultless g room x t j kind s full (inl (z, h)) =

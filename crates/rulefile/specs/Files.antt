@@ -1,5 +1,5 @@
 -- Whole rule files: which are by the grammar, and which places are at fault.
-use Rattle.std.specs.Prelude.{◌≡◌, ℕ, suc, ◌+◌, ◌≤◌, true, false, cond, ◌⊎◌, List, [], ◌∷◌, ◌++◌, length, take, drop, Some, Ok, Err, Result, nat_lt}
+use Rattle.std.specs.Prelude.{◌≡◌, ℕ, suc, ◌+◌, ◌≤◌, true, false, cond, ◌⊎◌, List, [], ◌∷◌, ◌++◌, length, take, Some, Ok, Err, Result, nat_lt}
 use Rattle.std.specs.List.{slice_get, flat_map}
 use Rattle.lines.specs.Lines.{Span, Lines}
 use Rattle.lines.specs.declared.reader.Place.{Place}
@@ -8,6 +8,7 @@ use Rattle.rules.specs.declared.rule.Effect.TheVariants.{Permit}
 use Rattle.rules.specs.declared.rule.Rule.{Rule}
 use Rattle.rules.specs.declared.letter.Letter.{Letter}
 use Rattle.rules.specs.declared.letter.Letter.TheVariants.{Guarded}
+pub use Rattle.rules.specs.Filled.{filled}
 use Rattle.rules.specs.Letters.{letter_byte}
 use Rattle.rulefile.specs.declared.grammar.Grammar.{Grammar}
 use Rattle.rulefile.specs.declared.grammar.Item.{Item}
@@ -92,10 +93,6 @@ pub record SaidBefore (posts : ℕ) (file : List ℕ) (k : ℕ) (ts : List Rule)
   pub before : ℕ
   pub number_is : k ≡ before + 2
   pub says : Say (grammar letter conditions posts) (take before rest) ts
-
--- The first places hold xs, and the others what they held.
-abbrev pub filled : {X : Type 0} → List X → List X → List X
-filled xs held = xs ++ drop (length xs) held
 
 -- What reading the file into the slots answers, and what it leaves in them. A list comes exactly where no place is at fault, which is where
 -- the file is by the grammar and its rules are no more than the slots.

@@ -1,14 +1,15 @@
 -- What the inner functions of the reader answer, item by item.
 use Rattle.std.specs.Prelude.{◌≡◌, ℕ, ◌+◌, ◌-◌, ◌^◌, ◌<◌, ◌≤◌, Bool, true, false, cond, not, ◌&&◌, ◌||◌, List, [], ◌∷◌, length, take, Some, None, Ok, Err, Option, Result, ◌==◌, bit_or, nat_le, nat_lt}
-use Rattle.std.specs.Borrow.{Bor}
 use Rattle.std.specs.List.{slice_get}
 use Rattle.std.specs.Option.{unwrap_or}
 use Rattle.ladders.specs.Sets.{holds}
 use Rattle.lines.specs.Lines.{Span}
+use Rattle.lines.specs.declared.reader.Line.{Line}
 use Rattle.lines.specs.declared.reader.Place.{Place}
 use Rattle.rules.specs.declared.rule.Effect.{Effect}
 use Rattle.rules.specs.declared.rule.Effect.TheVariants.{Permit, Deny}
 use Rattle.rules.specs.declared.rule.Rule.{Rule}
+use Rattle.rules.specs.Filled.{filled}
 use Rattle.rules.specs.declared.letter.Letter.{Letter}
 use Rattle.rules.specs.declared.letter.Letter.TheVariants.{Guarded, Model}
 use Rattle.rules.specs.declared.letter.Model.TheVariants.{A, B, C, D}
@@ -18,6 +19,7 @@ use Rattle.rulefile.specs.declared.grammar.Name.TheVariants.{Condition, Post}
 use Rattle.rulefile.specs.declared.grammar.Item.{Item}
 use Rattle.rulefile.specs.declared.grammar.Listing.{Listing}
 use Rattle.rulefile.specs.declared.draft.Draft.{Draft}
+use Rattle.rulefile.specs.declared.items.ItemReader.{ItemReader}
 use Rattle.rulefile.specs.declared.faults.ItemFault.{ItemFault}
 use Rattle.rulefile.specs.declared.faults.ItemFault.TheVariants.{NotDue, OutOfRange}
 use Rattle.rulefile.specs.declared.faults.LineFault.{LineFault}
@@ -28,7 +30,7 @@ use Rattle.rulefile.specs.Faults.{kind_of, place, place_of}
 use Rattle.rulefile.specs.Items.{name_of, item}
 use Rattle.rulefile.specs.Faulty.{FirstFault}
 use Rattle.rulefile.specs.RuleLines.{silent}
-use Rattle.rulefile.specs.Files.{Say, filled}
+use Rattle.rulefile.specs.Files.{Say}
 
 abbrev pub fresh : Effect → Draft
 fresh e = record { effect = e; needed = 0; barred = 0; floor = None; barred_posts = 0 }
@@ -112,15 +114,55 @@ pub data ItemsRead (g : Grammar) : Draft → List ℕ → Place → Result Rule 
   more : {d : Draft} {xs : List ℕ} {p : Place} {r : Result Rule LineFault} (i : Item) (rest : List ℕ) → item_read g d xs p ≡ Ok (i, rest)
       → ItemsRead g (with_item d i) rest (place p.line (p.offset + (length xs - length rest))) r → ItemsRead g d xs p r
 
--- the same answer, with the rest as a list
-abbrev pub told : {X E : Type 0} → Result (X × Bor (List ℕ)) E → Result (X × List ℕ) E
-told (Ok v) = Ok (v.0, v.1.now)
-told (Err e) = Err e
+-- the place of the first byte that the reader has left
+abbrev pub at : ItemReader → Place
+at s = place s.line (s.end - length s.rest.now)
+
+-- the reader went on along the same line
+pub record Kept (s t : ItemReader) : Type 0 where
+  pub grammar : t.grammar ≡ s.grammar
+  pub line : t.line ≡ s.line
+  pub end : t.end ≡ s.end
+
+-- where an item was read, the reader's draft and rest then
+abbrev pub told : ItemReader → Result (Unit {0}) LineFault → Result (Draft × List ℕ) LineFault
+told t (Ok u) = Ok (t.draft, t.rest.now)
+told t (Err e) = Err e
+
+-- the item that was read joins the draft
+abbrev pub taken : Draft → Result (Item × List ℕ) LineFault → Result (Draft × List ℕ) LineFault
+taken d (Ok v) = Ok (with_item d v.0, v.1)
+taken d (Err e) = Err e
 
 -- the effect that a mark stands for
 abbrev pub mark_read : Grammar → ℕ → Place → Result Effect LineFault
 mark_read g b p =
     cond (b == 43) (Ok Permit) (cond (b == 45) (cond (is_guarded g.letter) (Err (NotAllowed p)) (Ok Deny)) (Err (NoMark p)))
+
+-- the line l begins a rule, and the reader s stands after its mark
+pub record Opened (g : Grammar) (l : Line) (s : ItemReader) : Type 0 where
+  pub mark : ℕ
+  pub effect : Effect
+  pub bytes : l.bytes.now ≡ mark ∷ s.rest.now
+  pub loud : (mark == 35) ≡ false
+  pub read : mark_read g mark l.place ≡ Ok effect
+  pub grammar : s.grammar ≡ g
+  pub draft : s.draft ≡ fresh effect
+  pub place : at s ≡ next_place l.place
+
+-- the line l begins with a wrong mark
+pub record Unopened (g : Grammar) (l : Line) (f : LineFault) : Type 0 where
+  pub mark : ℕ
+  pub rest : List ℕ
+  pub bytes : l.bytes.now ≡ mark ∷ rest
+  pub loud : (mark == 35) ≡ false
+  pub read : mark_read g mark l.place ≡ Err f
+
+-- what the line l says before its items
+abbrev pub Begins : Grammar → Line → Result (Option ItemReader) LineFault → Type 0
+Begins g l (Ok None) = silent l.bytes.now ≡ true
+Begins g l (Ok (Some s)) = Opened g l s
+Begins g l (Err f) = Unopened g l f
 
 -- the draft after the items
 abbrev pub drafted : Draft → List Item → Draft

@@ -37,57 +37,37 @@ impl Draft {
     {
         match item.name {
             Name::Condition(c) => has(self.needed, c) || has(self.barred, c),
-            Name::Post(p) => match self.floor {
-                Some(floor) => !item.barred || floor == p || has(self.barred_posts as u16, p),
-                None => has(self.barred_posts as u16, p),
-            },
+            Name::Post(p) => {
+                self.floor.is_some_and(|floor| !item.barred || floor == p)
+                    || has(u16::from(self.barred_posts), p)
+            }
         }
     }
 
     // One item more.
-    pub(crate) fn with_item(self, item: Item) -> Draft
+    pub(crate) fn add(&mut self, item: Item)
         requires { Known item.name }
-        ensures { result ≡ with_item self item }
+        ensures { self.new ≡ with_item self.old item }
     {
-        match item.name {
-            Name::Condition(c) => {
-                if item.barred {
-                    Draft {
-                        barred: self.barred | (1 << c),
-                        ..self
-                    }
-                } else {
-                    Draft {
-                        needed: self.needed | (1 << c),
-                        ..self
-                    }
-                }
-            }
-            Name::Post(p) => {
-                if item.barred {
-                    Draft {
-                        barred_posts: self.barred_posts | (1 << p),
-                        ..self
-                    }
-                } else {
-                    Draft {
-                        floor: Some(p),
-                        ..self
-                    }
-                }
-            }
+        match (item.name, item.barred) {
+            (Name::Condition(c), true) => self.barred |= 1 << c,
+            (Name::Condition(c), false) => self.needed |= 1 << c,
+            (Name::Post(p), true) => self.barred_posts |= 1 << p,
+            (Name::Post(p), false) => self.floor = Some(p),
         }
     }
+}
 
-    pub(crate) fn rule(self) -> Rule
-        ensures { result ≡ finished self }
-    {
+impl From<Draft> for Rule {
+    ghost from_gives = { λ draft rule. rule ≡ finished draft };
+
+    fn from(draft: Draft) -> Rule {
         Rule {
-            effect: self.effect,
-            needed: self.needed,
-            barred: self.barred,
-            floor: self.floor.unwrap_or(0),
-            barred_posts: self.barred_posts,
+            effect: draft.effect,
+            needed: draft.needed,
+            barred: draft.barred,
+            floor: draft.floor.unwrap_or(0),
+            barred_posts: draft.barred_posts,
         }
     }
 }

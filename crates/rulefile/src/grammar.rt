@@ -1,4 +1,7 @@
 // What a rule line is read by, and the items that it is made of.
+ghost use Rattle.std.specs.Prelude.{◌≡◌};
+ghost use Rattle.rulefile.specs.Steps.{within};
+
 use rules::Letter;
 
 // The letter of the list, the number of conditions and the number of posts.
@@ -7,6 +10,18 @@ pub struct Grammar {
     pub letter: Letter,
     pub conditions: u8,
     pub posts: usize,
+}
+
+impl Grammar {
+    // Whether the list has the condition, or the ladder the post.
+    pub(crate) fn has(self, name: Name) -> bool
+        ensures { result ≡ within self name }
+    {
+        match name {
+            Name::Condition(c) => c < self.conditions,
+            Name::Post(p) => usize::from(p) < self.posts,
+        }
+    }
 }
 
 // What an item names: a condition, a being 0, or a post.

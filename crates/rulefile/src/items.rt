@@ -1,7 +1,6 @@
 // Reading the items of a rule line, one after the other.
-ghost use Rattle.std.specs.Prelude.{◌≡◌, ◌+◌, ◌^◌, ◌<◌, length, IfSome, IfOk};
+ghost use Rattle.std.specs.Prelude.{◌≡◌, ◌≤◌, length, IfSome, IfOk};
 ghost use Rattle.rulefile.specs.Items.{name_of, Known};
-ghost use Rattle.rulefile.specs.Steps.{within, known_name, name_read, new_item, after_space, item_read, ItemsRead, next_place, told};
 
 use crate::draft::Draft;
 use crate::faults::{ItemFault, LineFault};
@@ -9,7 +8,7 @@ use crate::grammar::{Grammar, Item, Name};
 use lines::Place;
 use rules::{Letter, Rule};
 
-// What a byte names: a condition by its letter, or a post by its digit.
+// What a byte names: a condition by its letter, or a post by its digit. That it is one of these is a clause, since an enum has no invariant.
 fn name_of(b: u8) -> Option<Name>
     ensures value { result ≡ name_of b }
     ensures known { IfSome result Known }
@@ -21,136 +20,101 @@ fn name_of(b: u8) -> Option<Name>
     }
 }
 
-// Whether the list has the condition, or the ladder the post.
-fn is_within(name: Name, grammar: Grammar) -> bool
-    ensures { result ≡ within grammar name }
-{
-    match name {
-        Name::Condition(c) => c < grammar.conditions,
-        Name::Post(p) => (p as usize) < grammar.posts,
-    }
+// A rule line after its mark: the draft of the items so far, and the bytes that are still to be read, up to the line's end.
+#[derive(Drop)]
+pub(crate) struct ItemReader<'a> {
+    pub(crate) grammar: Grammar,
+    pub(crate) draft: Draft,
+    pub(crate) line: usize,
+    pub(crate) end: usize,
+    pub(crate) rest: &'a [u8],
+    ghost within: { length rest.now ≤ end },
 }
 
-fn known_name(b: u8, grammar: Grammar, place: Place) -> Result<Name, ItemFault>
-    ensures value { result ≡ known_name grammar (name_of b) place }
-    ensures known { IfOk result Known }
-{
-    let Some(name) = name_of(b) else {
-        return Err(ItemFault::NotDue(place));
-    };
-    if is_within(name, grammar) {
-        Ok(name)
-    } else {
-        Err(ItemFault::OutOfRange(place))
-    }
-}
+impl<'a> ItemReader<'a> {
+    ghost use Rattle.rulefile.specs.Steps.{at, Kept, with_rest, name_read, told, taken, new_item, after_space, item_read, ItemsRead};
 
-// The name that an item ends with, and what follows it.
-fn read_name(bytes: &[u8], grammar: Grammar, place: Place) -> Result<(Name, &[u8]), ItemFault>
-    ensures value { told result ≡ name_read grammar bytes.now place }
-    ensures known { IfOk result (λ v. Known v.0 × (length v.1.now < length bytes.now)) }
-{
-    match bytes {
-        [] => Err(ItemFault::NotDue(place)),
-        [name, rest @ ..] => Ok((known_name(*name, grammar, place)?, rest)),
+    // The place of the first byte that is left, or of the line's end.
+    fn place(&self) -> Place
+        ensures { result ≡ at self.now }
+    {
+        Place {
+            line: self.line,
+            offset: self.end - self.rest.len(),
+        }
     }
-}
 
-// An item by its name, which is new to the line.
-fn new_item(
-    bytes: &[u8],
-    barred: bool,
-    grammar: Grammar,
-    draft: Draft,
-    place: Place,
-) -> Result<(Item, &[u8]), LineFault>
-    ensures value { told result ≡ new_item grammar draft barred bytes.now place }
-    ensures known { IfOk result (λ v. Known v.0.name × (length v.1.now < length bytes.now)) }
-{
-    let (name, rest) = read_name(bytes, grammar, place)?;
-    let item = Item { barred, name };
-    if draft.repeats(item) {
-        return Err(LineFault::Repeated(place));
-    }
-    Ok((item, rest))
-}
-
-// The place of the next byte of the line.
-pub(crate) fn next_place(place: Place) -> Place
-    requires { place.offset + 1 < 2 ^ 64 }
-    ensures { result ≡ next_place place }
-{
-    Place {
-        line: place.line,
-        offset: place.offset + 1,
-    }
-}
-
-// After an item's space: a `!` and a name, or a name alone. The `!` itself is at fault in a list of a model.
-fn after_space(
-    bytes: &[u8],
-    grammar: Grammar,
-    draft: Draft,
-    place: Place,
-) -> Result<(Item, &[u8]), LineFault>
-    requires { place.offset + length bytes.now < 2 ^ 64 }
-    ensures value { told result ≡ after_space grammar draft bytes.now place }
-    ensures known { IfOk result (λ v. Known v.0.name × (length v.1.now < length bytes.now)) }
-{
-    match bytes {
-        [] => Err(LineFault::Item(ItemFault::NotDue(place))),
-        [first, rest @ ..] => match *first as char {
-            '!' => match grammar.letter {
-                Letter::Guarded => new_item(rest, true, grammar, draft, next_place(place)),
-                Letter::Model(_) => Err(LineFault::NotAllowed(place)),
-            },
-            _ => new_item(bytes, false, grammar, draft, place),
-        },
-    }
-}
-
-// The first item, and what follows it.
-fn first_item(
-    bytes: &[u8],
-    grammar: Grammar,
-    draft: Draft,
-    place: Place,
-) -> Result<(Item, &[u8]), LineFault>
-    requires { place.offset + length bytes.now < 2 ^ 64 }
-    ensures value { told result ≡ item_read grammar draft bytes.now place }
-    ensures known { IfOk result (λ v. Known v.0.name × (length v.1.now < length bytes.now)) }
-{
-    match bytes {
-        [] => Err(LineFault::Item(ItemFault::NotDue(place))),
-        [first, rest @ ..] => match *first as char {
-            ' ' => after_space(rest, grammar, draft, next_place(place)),
-            _ => Err(LineFault::Item(ItemFault::NotDue(place))),
-        },
-    }
-}
-
-// The rule that a line's items give.
-pub(crate) fn read_items(
-    start: Draft,
-    bytes: &[u8],
-    grammar: Grammar,
-    place: Place,
-) -> Result<Rule, LineFault>
-    requires { place.offset + length bytes.now < 2 ^ 64 }
-    ensures { ItemsRead grammar start bytes.now place result }
-{
-    let mut draft = start;
-    let mut rest = bytes;
-    let mut offset = place.offset;
-    while !rest.is_empty() {
-        let here = Place {
-            line: place.line,
-            offset,
+    // The name that an item ends with.
+    fn read_name(&mut self) -> Result<Name, ItemFault>
+        ensures kept { Kept self.old self.new }
+        ensures draft { self.new.draft ≡ self.old.draft }
+        ensures value { with_rest self.new.rest.now result ≡ name_read self.old.grammar self.old.rest.now (at self.old) }
+        ensures known { IfOk result Known }
+    {
+        let place = self.place();
+        let [first, rest @ ..] = self.rest else {
+            return Err(ItemFault::NotDue(place));
         };
-        let (item, more) = first_item(rest, grammar, draft, here)?;
-        draft = draft.with_item(item);
-        offset += rest.len() - more.len();
-        rest = more;
+        let name = name_of(*first).ok_or(ItemFault::NotDue(place))?;
+        if !self.grammar.has(name) {
+            return Err(ItemFault::OutOfRange(place));
+        }
+        self.rest = rest;
+        Ok(name)
     }
-    Ok(draft.rule())
+
+    // An item by its name, which is new to the line.
+    fn new_item(&mut self, barred: bool) -> Result<(), LineFault>
+        ensures kept { Kept self.old self.new }
+        ensures value { told self.new result ≡ taken self.old.draft (new_item self.old.grammar self.old.draft barred self.old.rest.now (at self.old)) }
+    {
+        let place = self.place();
+        let name = self.read_name()?;
+        let item = Item { barred, name };
+        if self.draft.repeats(item) {
+            return Err(LineFault::Repeated(place));
+        }
+        self.draft.add(item);
+        Ok(())
+    }
+
+    // After an item's space: a `!` and a name, or a name alone. The `!` itself is at fault in a list of a model.
+    fn after_space(&mut self) -> Result<(), LineFault>
+        ensures kept { Kept self.old self.new }
+        ensures value { told self.new result ≡ taken self.old.draft (after_space self.old.grammar self.old.draft self.old.rest.now (at self.old)) }
+    {
+        let [first, rest @ ..] = self.rest else {
+            return Err(LineFault::Item(ItemFault::NotDue(self.place())));
+        };
+        match (*first as char, self.grammar.letter) {
+            ('!', Letter::Guarded) => {
+                self.rest = rest;
+                self.new_item(true)
+            }
+            ('!', Letter::Model(_)) => Err(LineFault::NotAllowed(self.place())),
+            _ => self.new_item(false),
+        }
+    }
+
+    // The first item that is left.
+    fn read_item(&mut self) -> Result<(), LineFault>
+        ensures kept { Kept self.old self.new }
+        ensures value { told self.new result ≡ taken self.old.draft (item_read self.old.grammar self.old.draft self.old.rest.now (at self.old)) }
+    {
+        let [b' ', rest @ ..] = self.rest else {
+            return Err(LineFault::Item(ItemFault::NotDue(self.place())));
+        };
+        self.rest = rest;
+        self.after_space()
+    }
+
+    // The rule that all items of the line give.
+    pub(crate) fn read_rule(mut self) -> Result<Rule, LineFault>
+        ensures { ItemsRead self.entry.grammar self.entry.draft self.entry.rest.now (at self.entry) result }
+    {
+        while !self.rest.is_empty() {
+            self.read_item()?;
+        }
+        Ok(Rule::from(self.draft))
+    }
 }

@@ -7,20 +7,23 @@ ghost use Rattle.rulefile.specs.Steps.{RestSays};
 use crate::faults::FileFault;
 use crate::grammar::{Grammar, Listing};
 use crate::head::read_head;
-use crate::rule_line::read_line;
+use crate::rule_line::begin_rule;
 use ladders::Ladder;
 use lines::Reader;
 use rules::Rule;
 
 // The rules of the lines ahead of the reader, and how many they are.
-fn read_rules(reader: &mut Reader, grammar: Grammar, slots: &mut [Rule]) -> Result<usize, FileFault>
-    ensures { (ls : List Span) → Lines (reader.old.read + 1) reader.old.at (drop reader.old.at reader.old.file.now) ls → RestSays grammar ls slots.old result slots.new }
+fn read_rules(lines: Reader, grammar: Grammar, slots: &mut [Rule]) -> Result<usize, FileFault>
+    ensures { (ls : List Span) → Lines (lines.entry.read + 1) lines.entry.at (drop lines.entry.at lines.entry.file.now) ls → RestSays grammar ls slots.old result slots.new }
 {
+    // the slots are filled by index: of what `iter_mut` or `get_mut` of a slice lent, no proof knows what was written
     let mut count = 0;
-    while let Some(line) = reader.next_line() {
-        let room = count < slots.len();
-        if let Some(rule) = read_line(line, grammar, room)? {
-            slots[count] = rule;
+    for line in lines {
+        if let Some(items) = begin_rule(line, grammar)? {
+            if count == slots.len() {
+                return Err(FileFault::NoSlot(line.place));
+            }
+            slots[count] = items.read_rule()?;
             count += 1;
         }
     }
@@ -35,19 +38,17 @@ pub fn read<L: Ladder>(file: &[u8], ladder: &L, slots: &mut [Rule]) -> Result<Li
     ensures once { OneReading (L.posts ladder.now) file.now }
     ensures lawful { EveryRule (L.posts ladder.now) }
 {
-    let mut reader = Reader::new(file);
-    let Some(line) = reader.next_line() else {
-        return Err(FileFault::WrongHead);
-    };
-    let Some((letter, conditions)) = read_head(line.bytes) else {
-        return Err(FileFault::WrongHead);
-    };
+    let mut lines = Reader::new(file);
+    let (letter, conditions) = lines
+        .next()
+        .and_then(|line| read_head(line.bytes))
+        .ok_or(FileFault::WrongHead)?;
     let grammar = Grammar {
         letter,
         conditions,
         posts: ladder.count(),
     };
-    let rules = read_rules(&mut reader, grammar, slots)?;
+    let rules = read_rules(lines, grammar, slots)?;
     Ok(Listing {
         letter,
         conditions,

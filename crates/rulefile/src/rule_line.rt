@@ -1,14 +1,13 @@
 // A line after the first: it says nothing, or it is a rule.
 ghost use Rattle.std.specs.Prelude.{◌≡◌, ◌+◌, ◌^◌, ◌<◌, length};
-ghost use Rattle.rulefile.specs.RuleLines.{LineSays};
-ghost use Rattle.rulefile.specs.Steps.{mark_read};
+ghost use Rattle.rulefile.specs.Steps.{mark_read, Begins};
 
 use crate::draft::Draft;
-use crate::faults::{FileFault, LineFault};
+use crate::faults::LineFault;
 use crate::grammar::Grammar;
-use crate::items::{next_place, read_items};
+use crate::items::ItemReader;
 use lines::{Line, Place};
-use rules::{Effect, Letter, Rule};
+use rules::{Effect, Letter};
 
 // A line that begins with it says nothing.
 const COMMENT: char = '#';
@@ -17,20 +16,18 @@ const COMMENT: char = '#';
 fn read_mark(mark: u8, grammar: Grammar, place: Place) -> Result<Effect, LineFault>
     ensures { result ≡ mark_read grammar mark place }
 {
-    match mark as char {
-        '+' => Ok(Effect::Permit),
-        '-' => match grammar.letter {
-            Letter::Guarded => Err(LineFault::NotAllowed(place)),
-            Letter::Model(_) => Ok(Effect::Deny),
-        },
+    match (mark as char, grammar.letter) {
+        ('+', _) => Ok(Effect::Permit),
+        ('-', Letter::Guarded) => Err(LineFault::NotAllowed(place)),
+        ('-', Letter::Model(_)) => Ok(Effect::Deny),
         _ => Err(LineFault::NoMark(place)),
     }
 }
 
-// What the line says; `room` tells whether a slot is left for its rule.
-pub(crate) fn read_line(line: Line, grammar: Grammar, room: bool) -> Result<Option<Rule>, FileFault>
+// The rule that the line begins, if it says anything: its mark is read, and its items are still to be read.
+pub(crate) fn begin_rule(line: Line, grammar: Grammar) -> Result<Option<ItemReader>, LineFault>
     requires { line.place.offset + length line.bytes.now < 2 ^ 64 }
-    ensures { LineSays grammar room line.entry.place line.entry.bytes.now result }
+    ensures { Begins grammar line.entry result }
 {
     let [mark, rest @ ..] = line.bytes else {
         return Ok(None);
@@ -39,9 +36,11 @@ pub(crate) fn read_line(line: Line, grammar: Grammar, room: bool) -> Result<Opti
         return Ok(None);
     }
     let effect = read_mark(*mark, grammar, line.place)?;
-    if !room {
-        return Err(FileFault::NoSlot(line.place));
-    }
-    let rule = read_items(Draft::new(effect), rest, grammar, next_place(line.place))?;
-    Ok(Some(rule))
+    Ok(Some(ItemReader {
+        grammar,
+        draft: Draft::new(effect),
+        line: line.place.line,
+        end: line.place.offset + line.bytes.len(),
+        rest,
+    }))
 }
