@@ -5,3 +5,5 @@ pub mod Places
 pub mod Overs
 pub mod Lined
 pub mod Shorter
+pub mod Picks
+pub mod Lines

@@ -1,6 +1,8 @@
 -- Some line gives a rule exactly where its parts are in range, apart, and allowed by the letter.
-use Rattle.std.proofs.Common.{◌≡◌, ℕ, ◌*◌, ◌/◌, ◌^◌, ◌<◌, ◌≤◌, Bool, true, false, not, ◌&&◌, ◌||◌, eqb, ltb, List, [], ◌∷◌, ◌++◌, Decides, sym, refl, ap, ◌∙◌, subst, ⊎_elim, zero-mul, arith}
+use Rattle.std.proofs.Common.{◌≡◌, ℕ, zero, suc, length, take, Some, None, Option, MatchOption, ◌*◌, ◌/◌, ◌^◌, ◌<◌, ◌≤◌, Bool, true, false, not, ◌&&◌, ◌||◌, eqb, ltb, List, [], ◌∷◌, ◌++◌, Decides, sym, refl, ap, ◌∙◌, subst, ⊎_elim, zero-mul, arith}
 use lib.Bits.{bit_and}
+use Rattle.std.specs.List.{AllByRecursion, AllWithin, HoldsAt, slice_get}
+use Rattle.std.proofs.lemmas.List.{take_all}
 use Rattle.std.proofs.lemmas.Nat.{shr_split, mod_below, pow_pos}
 use Rattle.std.proofs.lemmas.Bool.{cases_lt, eq-eqb, lt-ltb, ltb-true, and_from, not_from_false, both_ways, cases_Bool, cases_eq, eqb-true, or_cases, or_left, or_right, or_parts, and_parts, not-true}
 use Rattle.ladders.specs.Sets.{holds}
@@ -16,10 +18,11 @@ use Rattle.rulefile.specs.declared.grammar.Name.TheVariants.{Condition, Post}
 use Rattle.rulefile.specs.declared.grammar.Item.{Item}
 use Rattle.rulefile.specs.Items.{any, same_name, is_post, plain_digit, Within, Follow, Means, Spells}
 use Rattle.rulefile.proofs.Readings.{plain-some}
+use Rattle.rulefile.proofs.LineLaw.{follow-known}
 use Rattle.writing.specs.Written.{written_items, line_of}
 use Rattle.rules.specs.Rules.{bars_nothing}
 use Rattle.writing.specs.Writes.{Sayable}
-use Rattle.writing.specs.Steps.{in_range, names_once, permits, allowed, can_say}
+use Rattle.writing.specs.Steps.{Named, in_range, names_once, permits, allowed, can_say}
 use Rattle.writing.proofs.Orderly.{CanSay, any_append, written-follows, written-means}
 
 pub same-name : (x y : Name) → same_name x y ≡ true → x ≡ y
@@ -123,6 +126,12 @@ written-spells g t few-posts few s =
 pub can-sayable : (g : Grammar) (t : Rule) → g.posts ≤ 8 → g.conditions ≤ 9 → CanSay g t → Sayable g t
 can-sayable g t few-posts few s = (line_of t, written-spells g t few-posts few s)
 
+-- Where lines give the rules, each of their items has a letter or digit.
+pub all-named : (g : Grammar) → 1 ≤ g.posts → g.posts ≤ 8 → g.conditions ≤ 9 → (ts : List Rule) → AllByRecursion (Sayable g) ts → AllByRecursion Named ts
+all-named g some few-posts few [] h = tt
+all-named g some few-posts few (t ∷ ts) h =
+    (follow-known g [] (written_items t) (written-follows g t few-posts few (sayable-can g t some h.0)), all-named g some few-posts few ts h.1)
+
 -- the members of a set that is shifted out are all below
 shifted-out : (a k : ℕ) → eqb (a / 2 ^ k) 0 ≡ true → (c : ℕ) → holds a c ≡ true → c < k
 shifted-out a k e c h =
@@ -212,3 +221,20 @@ module _ (g : Grammar) (t : Rule) where
   -- The test tells whether some line gives the rule.
   pub decides-sayable : 1 ≤ g.posts → g.posts ≤ 8 → g.conditions ≤ 9 → Decides (can_say g t) (Sayable g t)
   decides-sayable some few-posts few = (λ e. can-sayable g t few-posts few (can-told e), λ s. told-can (sayable-can g t some s))
+
+-- The first rule that no line gives, by its place.
+front-all : (P : Rule → Type 0) (ts : List Rule) (k : ℕ) → AllWithin P ts 0 k → AllByRecursion P (take k ts)
+front-all P ts zero h = tt
+front-all P [] (suc k) h = tt
+front-all P (t ∷ ts) (suc k) h = (h 0 t (omega arith) (omega arith), front-all P ts k (λ j d lo lt. h (suc j) d (omega arith) (omega arith)))
+
+found-at : (P : Rule → Type 0) (ts : List Rule) (k : ℕ) → k < length ts → HoldsAt P ts k → (t : Rule) × ((slice_get ts k ≡ Some t) × P t)
+found-at P [] k lt h = absurd (omega arith)
+found-at P (t ∷ ts) zero lt h = (t, (refl, h t))
+found-at P (t ∷ ts) (suc k) lt h = found-at P ts k (omega arith) h
+
+pub first-unsaid : (g : Grammar) (ts : List Rule) (r : Option ℕ)
+    → MatchOption r (AllWithin (Sayable g) ts 0 (length ts)) (λ k. (k < length ts) × HoldsAt (λ t. Sayable g t → ⊥) ts k × AllWithin (Sayable g) ts 0 k)
+    → MatchOption r (AllByRecursion (Sayable g) ts) (λ k. AllByRecursion (Sayable g) (take k ts) × ((t : Rule) × ((slice_get ts k ≡ Some t) × (Sayable g t → ⊥))))
+first-unsaid g ts None h = subst (AllByRecursion (Sayable g)) (take_all (length ts) ts (omega arith)) (front-all (Sayable g) ts (length ts) h)
+first-unsaid g ts (Some k) h = (front-all (Sayable g) ts k h.2, found-at (λ t. Sayable g t → ⊥) ts k h.0 h.1)

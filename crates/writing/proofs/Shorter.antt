@@ -15,8 +15,7 @@ use Rattle.rulefile.specs.declared.grammar.Item.{Item}
 use Rattle.rulefile.specs.Items.{any, same_name, item, text, spelled, Means, Spells}
 use Rattle.rulefile.specs.Files.{Say, nothing, silence, a-rule, ByGrammar}
 use Rattle.writing.specs.Written.{floor_item, rising, line_of, lined, written}
-use Rattle.writing.specs.Steps.{placed_item}
-use Rattle.writing.proofs.Places.{text-start, text-more, line-placed, placed-cases}
+use Rattle.writing.proofs.Places.{placed_item, text-start, text-more, line-placed, placed-cases}
 use Rattle.writing.proofs.Sayings.{same-name, floor-named}
 
 -- The place of an item in the written order.
