@@ -251,7 +251,7 @@ module _ (g : Grammar) (t : Rule) (few-posts : g.posts ≤ 8) (few : g.condition
       (λ k. one-option f (holds t.barred_posts k) (item true (Post k)) ∙ picked (holds t.barred_posts) k p))
 
   -- the plain digit is the floor post's alone
-  floor-part : (f : Item → Bool) → ((b : Bool) (c : ℕ) → f (item b (Condition c)) ≡ false) → ((p : ℕ) → f (item true (Post p)) ≡ false) → any f (written_items t) ≡ (not (eqb t.floor 0) && f (item false (Post t.floor)))
+  pub floor-part : (f : Item → Bool) → ((b : Bool) (c : ℕ) → f (item b (Condition c)) ≡ false) → ((p : ℕ) → f (item true (Post p)) ≡ false) → any f (written_items t) ≡ (not (eqb t.floor 0) && f (item false (Post t.floor)))
   floor-part f none bars =
       by-posts f none
       ∙ ap₂ (λ a b. a || b) (unless-option f (eqb t.floor 0) (item false (Post t.floor)))

@@ -38,7 +38,7 @@ passing g f before (i ∷ is) h e =
     ⊎_elim (λ (p : f i ≡ true). (i, (p, (h.0.within, h.0.bar)))) (λ (p : any f is ≡ true). passing g f (before ++ (i ∷ [])) is h.1 p) (or_cases (f i) (any f is) e)
 
 -- what is named before is not named again
-named-before : (g : Grammar) (y : Name) (before is : List Item) → Follow g before is → any (λ i. same_name i.name y) before ≡ true → any (λ i. same_name i.name y) is ≡ true → ⊥
+pub named-before : (g : Grammar) (y : Name) (before is : List Item) → Follow g before is → any (λ i. same_name i.name y) before ≡ true → any (λ i. same_name i.name y) is ≡ true → ⊥
 named-before g y before [] h e k = both_ways false refl k
 named-before g y before (i ∷ is) h e k =
     ⊎_elim
@@ -50,7 +50,7 @@ named-before g y before (i ∷ is) h e k =
     (or_cases (same_name i.name y) (any (λ i. same_name i.name y) is) k)
 
 -- what is named under a test is named
-tested-named : (b : Item → Bool) (y : Name) (is : List Item) → any (λ i. b i && same_name i.name y) is ≡ true → any (λ i. same_name i.name y) is ≡ true
+pub tested-named : (b : Item → Bool) (y : Name) (is : List Item) → any (λ i. b i && same_name i.name y) is ≡ true → any (λ i. same_name i.name y) is ≡ true
 tested-named b y [] h = h
 tested-named b y (i ∷ is) h =
     ⊎_elim
