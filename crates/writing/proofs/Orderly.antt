@@ -4,14 +4,18 @@ use mathlib.Core.Bool.{and-true, and-false, or-false, or_assoc}
 use Rattle.std.specs.Option.{option_to_list}
 use Rattle.std.proofs.lemmas.Bool.{both_ways, cases_Bool, cases_eq, eq-eqb, ne_eqb, eqb-true, lt-ltb, le-ltb, ltb-true, ltb-false, or_from, or_parts, and_right, and_parts}
 use Rattle.ladders.specs.Sets.{holds}
+use Rattle.ladders.proofs.Sets.{zero-holds, no-members}
 use Rattle.rules.specs.declared.rule.Effect.TheVariants.{Permit}
 use Rattle.rules.specs.declared.rule.Rule.{Rule}
-use Rattle.rules.specs.declared.letter.Letter.TheVariants.{Guarded}
+use Rattle.rules.specs.declared.letter.Letter.{Letter}
+use Rattle.rules.specs.declared.letter.Letter.TheVariants.{Guarded, Model}
+use Rattle.rules.specs.declared.letter.Model.{Model as Kind}
 use Rattle.rulefile.specs.declared.grammar.Grammar.{Grammar}
 use Rattle.rulefile.specs.declared.grammar.Name.TheVariants.{Condition, Post}
 use Rattle.rulefile.specs.declared.grammar.Item.{Item}
 use Rattle.rulefile.specs.Items.{any, same_name, is_condition, is_post, plain_digit, item, Fits, Follow, Means}
 use Rattle.writing.specs.Written.{floor_item, post_item, condition_item, rising, written_items}
+use Rattle.writing.specs.Steps.{Allowed, CanSay}
 
 pub any_append : (f : Item → Bool) (xs ys : List Item) → any f (xs ++ ys) ≡ (any f xs || any f ys)
 any_append f [] ys = refl
@@ -52,15 +56,30 @@ follow-rising g before h zero each = tt
 follow-rising g before h (suc n) each =
     follow-append g before (rising h n) (option_to_list (h n)) (follow-rising g before h n (λ k lt. each k (omega arith))) (each n (omega arith))
 
--- What a line can give, of a rule.
-pub record CanSay (g : Grammar) (t : Rule) : Type 0 where
-  pub floor : t.floor < g.posts
-  pub needed : (c : ℕ) → holds t.needed c ≡ true → c < g.conditions
-  pub barred : (c : ℕ) → holds t.barred c ≡ true → (c < g.conditions) × (g.letter ≡ Guarded)
-  pub posts : (p : ℕ) → holds t.barred_posts p ≡ true → (p < g.posts) × (g.letter ≡ Guarded)
-  pub apart : (c : ℕ) → holds t.needed c ≡ true → holds t.barred c ≡ false
-  pub free : 0 < t.floor → holds t.barred_posts t.floor ≡ false
-  pub mark : g.letter ≡ Guarded → t.effect ≡ Permit
+-- What the letter allows, by cases.
+module _ (t : Rule) where
+  none_in : (a c : ℕ) {X : Type 0} → a ≡ 0 → holds a c ≡ true → X
+  none_in a c z h = absurd (both_ways (holds a c) (ap (λ x. holds x c) z ∙ zero-holds c) h)
+
+  bars-guarded : (l : Letter) → Allowed l t → (c : ℕ) → holds t.barred c ≡ true → l ≡ Guarded
+  bars-guarded Guarded a c h = refl
+  bars-guarded (Model m) a c h = none_in t.barred c a.0 h
+
+  posts-guarded : (l : Letter) → Allowed l t → (p : ℕ) → holds t.barred_posts p ≡ true → l ≡ Guarded
+  posts-guarded Guarded a p h = refl
+  posts-guarded (Model m) a p h = none_in t.barred_posts p a.1 h
+
+  pub marked : (l : Letter) → Allowed l t → l ≡ Guarded → t.effect ≡ Permit
+  marked Guarded a e = a
+  marked (Model m) a e = absurd (cc)
+
+  empty : (m : Kind) (s : ℕ) → ((c : ℕ) → holds s c ≡ true → Model m ≡ Guarded) → s ≡ 0
+  empty m s h =
+      no-members s (λ c. ⊎_elim (λ (e : holds s c ≡ true). let g = h c e in absurd (cc)) (λ (e : holds s c ≡ false). e) (cases_Bool (holds s c)))
+
+  pub allowed-from : (l : Letter) → (l ≡ Guarded → t.effect ≡ Permit) → ((c : ℕ) → holds t.barred c ≡ true → l ≡ Guarded) → ((p : ℕ) → holds t.barred_posts p ≡ true → l ≡ Guarded) → Allowed l t
+  allowed-from Guarded mark bars posts = mark refl
+  allowed-from (Model m) mark bars posts = (empty m t.barred bars, empty m t.barred_posts posts)
 
 -- Options by their tests.
 one-option : (f : Item → Bool) (b : Bool) (i : Item) → any f (option_to_list (cond b (Some i) None)) ≡ (b && f i)
@@ -99,7 +118,7 @@ module _ (g : Grammar) (t : Rule) (few-posts : g.posts ≤ 8) (few : g.condition
   floor-follows : Follow g [] (option_to_list (floor_item t))
   floor-follows =
       follow-unless g [] (eqb t.floor 0) (item false (Post t.floor))
-      (λ _. record { known = let h = s.floor in omega arith; within = s.floor; new = refl; bar = λ e. absurd (both_ways false refl e) })
+      (λ _. record { known = let h = s.range.floor in omega arith; within = s.range.floor; new = refl; bar = λ e. absurd (both_ways false refl e) })
 
   -- the floor post is no barred post
   floor-new : (k : ℕ) → holds t.barred_posts k ≡ true → any (λ j. same_name j.name (Post k)) (option_to_list (floor_item t)) ≡ false
@@ -109,7 +128,7 @@ module _ (g : Grammar) (t : Rule) (few-posts : g.posts ≤ 8) (few : g.condition
       (λ (e : t.floor ≡ 0). ap (λ b. not b && eqb t.floor k) (eq-eqb t.floor 0 e))
       (λ ne.
       and_right (not (eqb t.floor 0)) (eqb t.floor k)
-      (ne_eqb t.floor k (λ same. both_ways (holds t.barred_posts k) (subst (λ p. holds t.barred_posts p ≡ false) same (s.free (omega arith))) h)))
+      (ne_eqb t.floor k (λ same. both_ways (holds t.barred_posts k) (subst (λ p. holds t.barred_posts p ≡ false) same (s.once.posts (omega arith))) h)))
       (cases_eq t.floor 0)
 
   posts-follow : Follow g (option_to_list (floor_item t)) (rising (post_item t) 8)
@@ -119,7 +138,7 @@ module _ (g : Grammar) (t : Rule) (few-posts : g.posts ≤ 8) (few : g.condition
       follow-if g (option_to_list (floor_item t) ++ rising (post_item t) k) (holds t.barred_posts k) (item true (Post k))
       (λ h. record {
         known = lt;
-        within = (s.posts k h).0;
+        within = s.range.posts k h;
         new =
             or_from (any (λ j. same_name j.name (Post k)) (option_to_list (floor_item t) ++ rising (post_item t) k)) false
             (any_append (λ j. same_name j.name (Post k)) (option_to_list (floor_item t)) (rising (post_item t) k)
@@ -127,7 +146,7 @@ module _ (g : Grammar) (t : Rule) (few-posts : g.posts ≤ 8) (few : g.condition
             (any_none (λ j. same_name j.name (Post k)) (post_item t) k
             (λ j below. one-option (λ j. same_name j.name (Post k)) (holds t.barred_posts j) (item true (Post j)) ∙ and_right (holds t.barred_posts j) (eqb j k) (ne_eqb j k (λ e. omega arith)))))
             refl;
-        bar = λ _. (s.posts k h).1;
+        bar = λ _. posts-guarded t g.letter s.allowed k h;
       }))
 
   -- no post is a condition
@@ -156,15 +175,15 @@ module _ (g : Grammar) (t : Rule) (few-posts : g.posts ≤ 8) (few : g.condition
       follow-either g before (holds t.needed k) (holds t.barred k) (item false (Condition k)) (item true (Condition k))
       (λ h. record {
         known = lt;
-        within = s.needed k h;
+        within = s.range.needed k h;
         new = or_from (any (λ j. same_name j.name (Condition k)) before) false (condition-new k) refl;
         bar = λ e. absurd (both_ways false refl e);
       })
       (λ h. record {
         known = lt;
-        within = (s.barred k h).0;
+        within = s.range.barred k h;
         new = or_from (any (λ j. same_name j.name (Condition k)) before) false (condition-new k) refl;
-        bar = λ _. (s.barred k h).1;
+        bar = λ _. bars-guarded t g.letter s.allowed k h;
       }))
 
   pub written-follows : Follow g [] (written_items t)
@@ -213,7 +232,7 @@ module _ (g : Grammar) (t : Rule) (few-posts : g.posts ≤ 8) (few : g.condition
   needed-means : (c : ℕ) → holds t.needed c ≡ any (λ i. not i.barred && is_condition c i.name) (written_items t)
   needed-means c =
       let f : Item → Bool = λ i. not i.barred && is_condition c i.name in
-      below 9 (holds t.needed c) c (λ h. let l = s.needed c h in omega arith)
+      below 9 (holds t.needed c) c (λ h. let l = s.range.needed c h in omega arith)
       ∙ sym
       (by-conditions f (λ b _. and-false (not b))
       ∙ any-one f (condition_item t) c (holds t.needed c) 9
@@ -226,14 +245,14 @@ module _ (g : Grammar) (t : Rule) (few-posts : g.posts ≤ 8) (few : g.condition
   barred-means : (c : ℕ) → holds t.barred c ≡ any (λ i. i.barred && is_condition c i.name) (written_items t)
   barred-means c =
       let f : Item → Bool = λ i. i.barred && is_condition c i.name in
-      below 9 (holds t.barred c) c (λ h. let l = (s.barred c h).0 in omega arith)
+      below 9 (holds t.barred c) c (λ h. let l = s.range.barred c h in omega arith)
       ∙ sym
       (by-conditions f (λ b _. and-false b)
       ∙ any-one f (condition_item t) c (holds t.barred c) 9
       (λ k.
       two-options f (holds t.needed k) (holds t.barred k) (item false (Condition k)) (item true (Condition k))
       ∙ ap (λ b. b || (not (holds t.needed k) && (holds t.barred k && eqb k c))) (and_right (holds t.needed k) false refl)
-      ∙ alone (holds t.needed k) (holds t.barred k) (eqb k c) (s.apart k)
+      ∙ alone (holds t.needed k) (holds t.barred k) (eqb k c) (s.once.conditions k)
       ∙ picked (holds t.barred) k c))
     where
       alone : (a b e : Bool) → (a ≡ true → b ≡ false) → (not a && (b && e)) ≡ (b && e)
@@ -243,7 +262,7 @@ module _ (g : Grammar) (t : Rule) (few-posts : g.posts ≤ 8) (few : g.condition
   posts-means : (p : ℕ) → holds t.barred_posts p ≡ any (λ i. i.barred && is_post p i.name) (written_items t)
   posts-means p =
       let f : Item → Bool = λ i. i.barred && is_post p i.name in
-      below 8 (holds t.barred_posts p) p (λ h. let l = (s.posts p h).0 in omega arith)
+      below 8 (holds t.barred_posts p) p (λ h. let l = s.range.posts p h in omega arith)
       ∙ sym
       (by-posts f (λ b _. and-false b)
       ∙ ap (λ b. b || any f (rising (post_item t) 8)) (unless-option f (eqb t.floor 0) (item false (Post t.floor)) ∙ and_right (not (eqb t.floor 0)) false refl)

@@ -14,8 +14,9 @@ use Rattle.rulefile.specs.declared.grammar.Item.{Item}
 use Rattle.rulefile.specs.Items.{any, same_name, text, spelled, Known, Within, Follow, Means, Spells}
 use Rattle.rulefile.specs.Files.{grammar, Say, nothing, silence, a-rule, ByGrammar}
 use Rattle.writing.specs.Written.{written_items, line_of, lined, written}
+use Rattle.writing.specs.Steps.{CanSay}
 use Rattle.writing.proofs.Lines.{line-is}
-use Rattle.writing.proofs.Orderly.{CanSay, any_append, written-follows, written-means, floor-part}
+use Rattle.writing.proofs.Orderly.{any_append, written-follows, written-means, floor-part}
 use Rattle.writing.proofs.Sayings.{same-name, named-before, tested-named, floor-named, can-say}
 
 abbrev weight : List Item → ℕ

@@ -1,10 +1,10 @@
 // Which rules a line of the grammar can give.
-ghost use Rattle.std.specs.Prelude.{◌≡◌, ◌<◌, ◌≤◌, take, Some, MatchOption};
+ghost use Rattle.std.specs.Prelude.{◌≡◌, ◌<◌, ◌≤◌, take, Decides, Some, MatchOption};
 ghost use Rattle.std.specs.List.{slice_get, AllByRecursion};
 ghost use Rattle.rules.specs.declared.rule.Rule.{Rule};
 ghost use Rattle.rulefile.specs.Files.{grammar};
 ghost use Rattle.writing.specs.Writes.{Sayable};
-ghost use Rattle.writing.specs.Steps.{in_range, names_once, allowed, can_say};
+ghost use Rattle.writing.specs.Steps.{Below, Apart, InRange, NamesOnce, Allowed, CanSay};
 
 use ladders::{Ladder, has};
 use rulefile::Grammar;
@@ -36,18 +36,18 @@ impl SmallGrammar {
 
     // Whether the rule names only conditions and posts that there are.
     fn is_in_range(self, rule: &Rule) -> bool
-        ensures { result ≡ in_range self.grammar rule.now }
+        ensures { Decides result (InRange self.grammar rule.now) }
     {
-        let n = self.grammar.conditions;
+        let conditions = self.grammar.conditions as usize;
         (rule.floor as usize) < self.grammar.posts
-            && rule.needed >> n == 0
-            && rule.barred >> n == 0
-            && rule.barred_posts as u16 >> self.grammar.posts == 0
+            && is_below(rule.needed, conditions)
+            && is_below(rule.barred, conditions)
+            && is_below(rule.barred_posts as u16, self.grammar.posts)
     }
 
     // Whether some line gives the rule.
     fn is_sayable(self, rule: &Rule) -> bool
-        ensures { result ≡ can_say self.grammar rule.now }
+        ensures { Decides result (CanSay self.grammar rule.now) }
     {
         self.is_in_range(rule) && names_once(rule) && is_allowed(rule, self.grammar.letter)
     }
@@ -60,17 +60,32 @@ impl SmallGrammar {
     }
 }
 
+// Whether the members of a set are below n.
+fn is_below(set: u16, n: usize) -> bool
+    requires { n < 16 }
+    ensures { Decides result (Below set n) }
+{
+    set >> n == 0
+}
+
+// Whether no member of a set is one of another.
+fn are_apart(set: u16, other: u16) -> bool
+    ensures { Decides result (Apart set other) }
+{
+    set & other == 0
+}
+
 // Whether the rule names no condition and no post twice. A floor post 0 need not be named.
 fn names_once(rule: &Rule) -> bool
-    ensures { result ≡ names_once rule.now }
+    ensures { Decides result (NamesOnce rule.now) }
 {
-    rule.needed & rule.barred == 0
+    are_apart(rule.needed, rule.barred)
         && (rule.floor == 0 || !has(rule.barred_posts as u16, rule.floor))
 }
 
 // Whether a list of this letter may have the rule: a guarded list has no deny rules, and a list of a model bars nothing.
 fn is_allowed(rule: &Rule, letter: Letter) -> bool
-    ensures { result ≡ allowed letter rule.now }
+    ensures { Decides result (Allowed letter rule.now) }
 {
     match letter {
         Letter::Guarded => rule.effect == Effect::Permit,
