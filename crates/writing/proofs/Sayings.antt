@@ -1,9 +1,10 @@
 -- Some line gives a rule exactly where its parts are in range, apart, and allowed by the letter.
-use Rattle.std.proofs.Common.{◌≡◌, ℕ, zero, suc, length, take, Some, None, Option, MatchOption, ◌*◌, ◌/◌, ◌^◌, ◌<◌, ◌≤◌, Bool, true, false, not, ◌&&◌, List, [], ◌∷◌, ◌++◌, sym, refl, ap, ◌∙◌, subst, ⊎_elim, zero-mul, arith}
+use Rattle.std.proofs.Common.{◌≡◌, ℕ, zero, suc, length, take, Some, None, Option, MatchOption, ◌*◌, ◌/◌, ◌^◌, ◌<◌, ◌≤◌, Bool, true, false, not, ◌&&◌, ◌||◌, List, [], ◌∷◌, ◌++◌, sym, refl, ap, ◌∙◌, subst, ⊎_elim, zero-mul, arith}
 use Rattle.std.specs.List.{AllByRecursion, AllWithin, HoldsAt, slice_get}
 use Rattle.std.proofs.lemmas.List.{take_all}
 use Rattle.std.proofs.lemmas.Nat.{shr_split, mod_below, pow_pos}
-use Rattle.std.proofs.lemmas.Bool.{cases_lt, both_ways, cases_Bool, cases_eq, eqb-true, or_cases, or_left, or_right, or_parts, and_parts, not-true}
+use Rattle.std.proofs.lemmas.Bool.{cases_lt, both_ways, cases_Bool, cases_eq, eqb-true, or_cases, and_parts}
+use Rattle.std.proofs.lemmas.Bool.Decides.{nat_tests}
 use Rattle.ladders.specs.Sets.{holds}
 use Rattle.ladders.proofs.Sets.{none-past}
 use Rattle.rules.specs.declared.rule.Effect.TheVariants.{Permit}
@@ -37,43 +38,27 @@ passing g f before (i ∷ is) h e =
 pub named-before : (g : Grammar) (y : Name) (before is : List Item) → Follow g before is → any (λ i. same_name i.name y) before ≡ true → any (λ i. same_name i.name y) is ≡ true → ⊥
 named-before g y before [] h e k = both_ways false refl k
 named-before g y before (i ∷ is) h e k =
+    let longer = any_append (λ j. same_name j.name y) before (i ∷ []) in
+    let rest = named-before g y (before ++ (i ∷ [])) is h.1 in
     ⊎_elim
-    (λ (p : same_name i.name y ≡ true).
-    let new = (or_parts (any (λ j. same_name j.name i.name) before) (plain_digit i && any plain_digit before) h.0.new).0 in
-    both_ways (any (λ j. same_name j.name y) before) (subst (λ x. any (λ j. same_name j.name x) before ≡ false) (same-name i.name y p) new) e)
-    (λ (p : any (λ i. same_name i.name y) is ≡ true).
-    named-before g y (before ++ (i ∷ [])) is h.1 (any_append (λ j. same_name j.name y) before (i ∷ []) ∙ or_left (any (λ j. same_name j.name y) before) (any (λ j. same_name j.name y) (i ∷ [])) e) p)
+    (λ (p : same_name i.name y ≡ true). let new = subst (λ x. (any (λ j. same_name j.name x) before || (plain_digit i && any plain_digit before)) ≡ false) (same-name i.name y p) h.0.new in grind (arith, nat_tests))
+    (λ (p : any (λ i. same_name i.name y) is ≡ true). rest (grind (arith, nat_tests)) p)
     (or_cases (same_name i.name y) (any (λ i. same_name i.name y) is) k)
 
 -- what is named under a test is named
 pub tested-named : (b : Item → Bool) (y : Name) (is : List Item) → any (λ i. b i && same_name i.name y) is ≡ true → any (λ i. same_name i.name y) is ≡ true
 tested-named b y [] h = h
-tested-named b y (i ∷ is) h =
-    ⊎_elim
-    (λ p. or_left (same_name i.name y) (any (λ j. same_name j.name y) is) (and_parts (b i) (same_name i.name y) p).1)
-    (λ p. or_right (same_name i.name y) (any (λ j. same_name j.name y) is) (tested-named b y is p))
-    (or_cases (b i && same_name i.name y) (any (λ i. b i && same_name i.name y) is) h)
+tested-named b y (i ∷ is) h = let rest = tested-named b y is in grind (arith, nat_tests)
 
 -- a line names nothing both plain and barred
 named-once : (g : Grammar) (y : Name) (before is : List Item) → Follow g before is → any (λ i. not i.barred && same_name i.name y) is ≡ true → any (λ i. i.barred && same_name i.name y) is ≡ true → ⊥
 named-once g y before [] h p q = both_ways false refl p
 named-once g y before (i ∷ is) h p q =
-    ⊎_elim
-    (λ (a : (not i.barred && same_name i.name y) ≡ true).
-    let plain = and_parts (not i.barred) (same_name i.name y) a in
-    ⊎_elim (λ (b : (i.barred && same_name i.name y) ≡ true). both_ways i.barred (not-true i.barred plain.0) (and_parts i.barred (same_name i.name y) b).0)
-    (λ (b : any (λ i. i.barred && same_name i.name y) is ≡ true). here plain.1 (tested-named (λ i. i.barred) y is b))
-    (or_cases (i.barred && same_name i.name y) (any (λ i. i.barred && same_name i.name y) is) q))
-    (λ (a : any (λ i. not i.barred && same_name i.name y) is ≡ true).
-    ⊎_elim (λ (b : (i.barred && same_name i.name y) ≡ true). here (and_parts i.barred (same_name i.name y) b).1 (tested-named (λ i. not i.barred) y is a))
-    (λ (b : any (λ i. i.barred && same_name i.name y) is ≡ true). named-once g y (before ++ (i ∷ [])) is h.1 a b)
-    (or_cases (i.barred && same_name i.name y) (any (λ i. i.barred && same_name i.name y) is) q))
-    (or_cases (not i.barred && same_name i.name y) (any (λ i. not i.barred && same_name i.name y) is) p)
-  where
-    here : same_name i.name y ≡ true → any (λ i. same_name i.name y) is ≡ true → ⊥
-    here e k =
-        named-before g y (before ++ (i ∷ [])) is h.1
-        (any_append (λ j. same_name j.name y) before (i ∷ []) ∙ or_right (any (λ j. same_name j.name y) before) (any (λ j. same_name j.name y) (i ∷ [])) (or_left (same_name i.name y) false e)) k
+    let longer = any_append (λ j. same_name j.name y) before (i ∷ []) in
+    let again = named-before g y (before ++ (i ∷ [])) is h.1 in
+    let plain = tested-named (λ i. not i.barred) y is in
+    let bars = tested-named (λ i. i.barred) y is in
+    let rest = named-once g y (before ++ (i ∷ [])) is h.1 in grind (arith, nat_tests)
 
 -- A floor post other than 0 is named plain.
 pub floor-named : (is : List Item) (t : Rule) → Means is t → (t.floor ≡ 0 → ⊥) → any (λ i. not i.barred && is_post t.floor i.name) is ≡ true
@@ -107,11 +92,8 @@ module _ (g : Grammar) (t : Rule) (some : 1 ≤ g.posts) (is : List Item) (f : F
             };
         once =
             record {
-              conditions =
-                  λ c h. ⊎_elim (λ (e : holds t.barred c ≡ true). absurd (named-once g (Condition c) [] is f (sym (m.needed c) ∙ h) (sym (m.barred c) ∙ e))) (λ (e : holds t.barred c ≡ false). e) (cases_Bool (holds t.barred c));
-              posts =
-                  λ h.
-                  ⊎_elim (λ (e : holds t.barred_posts t.floor ≡ true). absurd (named-once g (Post t.floor) [] is f (floor-named is t m (λ z. omega arith)) (sym (m.posts t.floor) ∙ e))) (λ (e : holds t.barred_posts t.floor ≡ false). e) (cases_Bool (holds t.barred_posts t.floor));
+              conditions = λ c h. let needed = m.needed c in let bars = m.barred c in let once = named-once g (Condition c) [] is f in grind (arith, nat_tests);
+              posts = λ h. let bars = m.posts t.floor in let floor = floor-named is t m (λ z. omega arith) in let once = named-once g (Post t.floor) [] is f in grind (arith, nat_tests);
             };
         allowed =
             allowed-from t g.letter mark (λ c h. (barred-found (Condition c) (sym (m.barred c) ∙ h)).1) (λ p h. (barred-found (Post p) (sym (m.posts p) ∙ h)).1);

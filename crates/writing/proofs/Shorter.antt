@@ -2,7 +2,8 @@
 use Rattle.std.proofs.Common.{◌≡◌, ℕ, suc, ◌+◌, ◌≤◌, Bool, true, false, cond, not, ◌&&◌, eqb, List, [], ◌∷◌, ◌++◌, map, length, refl, sym, ap, ◌∙◌, ap₂, subst, ⊎_elim, arith, length-append}
 use mathlib.Core.Bool.{and-false}
 use Rattle.std.specs.List.{flat_map}
-use Rattle.std.proofs.lemmas.Bool.{both_ways, cases_Bool, eq-eqb, or_cases, or_left, or_right, and_from, and_parts, not-true}
+use Rattle.std.proofs.lemmas.Bool.{both_ways, cases_Bool, eq-eqb, or_cases, or_left, or_right, and_parts, not-true}
+use Rattle.std.proofs.lemmas.Bool.Decides.{nat_tests}
 use Rattle.lines.specs.Lines.{Span, Lines, none, more}
 use Rattle.lines.proofs.Split.{lines-cases, first-cases, no-first}
 use Rattle.rules.specs.declared.rule.Rule.{Rule}
@@ -94,7 +95,9 @@ still f y (i ∷ is) apart e =
 no-longer : (g : Grammar) (before ws is : List Item) → Follow g before ws → ((b : Bool) (y : Name) → any (test b y) ws ≡ true → any (test b y) is ≡ true) → weight ws ≤ weight is
 no-longer g before [] is f each = omega arith
 no-longer g before (w ∷ ws) is f each =
-    let here = without w.barred w.name is (each w.barred w.name (or_left (test w.barred w.name w) (any (test w.barred w.name) ws) (and_from (same w.barred w.barred) (same_name w.name w.name) (same-self w.barred) (name-self w.name)))) in
+    let bar = same-self w.barred in
+    let name = name-self w.name in
+    let here = without w.barred w.name is (each w.barred w.name (grind (arith, nat_tests))) in
     let rest = no-longer g (before ++ (w ∷ [])) ws (others w.name is) f.1
     (λ b y e. still (test b y) w.name is (λ i p. apart b y i p e) (each b y (or_right (test b y w) (any (test b y) ws) e))) in
     let whole = weight-more w ws in omega arith
@@ -102,11 +105,12 @@ no-longer g before (w ∷ ws) is f each =
     -- what is named later has another name
     apart : (b : Bool) (y : Name) (i : Item) → test b y i ≡ true → any (test b y) ws ≡ true → same_name i.name w.name ≡ false
     apart b y i p e =
+        let longer = any_append (λ j. same_name j.name w.name) before (w ∷ []) in
+        let self = name-self w.name in
         ⊎_elim
         (λ (s : same_name i.name w.name ≡ true).
         let y-is : y ≡ w.name = sym (same-name i.name y (and_parts (same b i.barred) (same_name i.name y) p).1) ∙ same-name i.name w.name s in
-        let again : any (λ j. same_name j.name w.name) ws ≡ true = subst (λ y. any (λ j. same_name j.name y) ws ≡ true) y-is (tested-named (λ j. same b j.barred) y ws e) in
-        absurd (named-before g w.name (before ++ (w ∷ [])) ws f.1 (any_append (λ j. same_name j.name w.name) before (w ∷ []) ∙ or_right (any (λ j. same_name j.name w.name) before) (any (λ j. same_name j.name w.name) (w ∷ [])) (or_left (same_name w.name w.name) false (name-self w.name))) again))
+        absurd (named-before g w.name (before ++ (w ∷ [])) ws f.1 (grind (arith, nat_tests)) (subst (λ y. any (λ j. same_name j.name y) ws ≡ true) y-is (tested-named (λ j. same b j.barred) y ws e))))
         (λ (s : same_name i.name w.name ≡ false). s)
         (cases_Bool (same_name i.name w.name))
 
