@@ -23,7 +23,7 @@ pub(crate) fn line_len(rule: &Rule) -> u16
     2 + Items::of(rule).map(item_len).sum::<u16>()
 }
 
-// The letter or digit of a name.
+// The letter or digit of a name. A function, since `Name` is another crate's, and so is `u8`: no `From` may stand here.
 fn name_byte(name: Name) -> u8
     requires { Known name }
     ensures { result ≡ byte_of name }
@@ -34,6 +34,7 @@ fn name_byte(name: Name) -> u8
     }
 }
 
+// The byte of an effect, in a function for the same reason.
 fn mark_of(effect: Effect) -> u8
     ensures { result ≡ mark_of effect }
 {
