@@ -1,34 +1,49 @@
 -- The lines of rules one after another.
-use Rattle.std.proofs.Common.{◌≡◌, ℕ, ◌+◌, ◌<◌, ◌≤◌, List, [], ◌∷◌, ◌++◌, map, length, get_or, take, drop, sym, refl, ap, ◌∙◌, append_assoc, arith}
-use Rattle.std.proofs.lemmas.List.{length-append, map-append, map_more, take_all, take-append-drop}
+use Rattle.std.proofs.Common.{◌≡◌, ℕ, ◌+◌, ◌<◌, ◌≤◌, List, [], ◌∷◌, ◌++◌, map, length, get_or, drop, sym, refl, ap, ◌∙◌, ◌*◌, subst, append_assoc, length-append, arith}
+use Rattle.std.specs.List.{AllByRecursion, sum_by}
+use Rattle.std.proofs.lemmas.List.Sums.{sum_by-cons}
+use Rattle.std.proofs.lemmas.List.{at_drop_more, at_drop_all}
 use Rattle.rules.specs.declared.rule.Effect.TheVariants.{Permit}
 use Rattle.rules.specs.declared.rule.Rule.{Rule}
 use Rattle.writing.specs.Written.{line_of, lined}
+use Rattle.writing.specs.Steps.{Named, Puts}
+use Rattle.writing.specs.declared.pen.Pen.{Pen}
+use Rattle.writing.proofs.Lines.{line-is, line-short}
+use Rattle.writing.proofs.Overs.{ToCome, to-come-more, to-come-none}
 
-lined-append : (xs ys : List (List ℕ)) → lined (xs ++ ys) ≡ lined xs ++ lined ys
-lined-append [] ys = refl
-lined-append (x ∷ xs) ys = ap (λ zs. x ++ (10 ∷ zs)) (lined-append xs ys) ∙ sym (append_assoc x (10 ∷ lined xs) (lined ys))
+-- how long they are
+pub length-lined : (ts : List Rule) → length (lined (map line_of ts)) ≡ sum_by (λ t. length (line_of t) + 1) ts
+length-lined [] = refl
+length-lined (t ∷ ts) =
+    let rest = length-lined ts in
+    let both = length-append (line_of t) (10 ∷ lined (map line_of ts)) in
+    let sum = sum_by-cons (λ t. length (line_of t) + 1) t ts in omega arith
+
+pub lined-short : (ts : List Rule) → length (lined (map line_of ts)) ≤ length ts * 56
+lined-short [] = omega arith
+lined-short (t ∷ ts) =
+    let rest = lined-short ts in
+    let both = length-append (line_of t) (10 ∷ lined (map line_of ts)) in
+    let line = ap length (line-is t) in
+    let short = line-short t in omega arith
 
 -- what a read past the end would give
 abbrev pub blank : Rule
 blank = record { effect = Permit; needed = 0; barred = 0; floor = 0; barred_posts = 0 }
 
-module _ (ts : List Rule) (i : ℕ) (d : Rule) (h : i < length ts) where
-  -- one rule more
-  pub lined-more : lined (map line_of (take (i + 1) ts)) ≡ lined (map line_of (take i ts)) ++ (line_of (get_or ts i d) ++ (10 ∷ []))
-  lined-more = ap lined (map_more line_of ts i d h) ∙ lined-append (map line_of (take i ts)) (line_of (get_or ts i d) ∷ [])
+-- where some rules are still to be written, one rule more
+module _ (ts : List Rule) (k : ℕ) (named : AllByRecursion Named (drop k ts)) {p start : Pen} {n : ℕ} {whole : List ℕ} (t : ToCome p (lined (map line_of (drop k ts))) n start whole) where
+  module _ (d : Rule) (h : k < length ts) where
+    here : drop k ts ≡ get_or ts k d ∷ drop (k + 1) ts
+    here = at_drop_more (λ us. us) ts k d h
 
-  pub length-lined-more : length (lined (map line_of (take (i + 1) ts))) ≡ length (lined (map line_of (take i ts))) + (length (line_of (get_or ts i d)) + 1)
-  length-lined-more =
-      ap length lined-more ∙ length-append (lined (map line_of (take i ts))) (line_of (get_or ts i d) ++ (10 ∷ []))
-      ∙ ap (λ n. length (lined (map line_of (take i ts))) + n) (length-append (line_of (get_or ts i d)) (10 ∷ []))
+    pub named-more : AllByRecursion Named (drop (k + 1) ts)
+    named-more = (subst (AllByRecursion Named) here named).1
 
--- the lines of the first rules are no longer than those of all
-pub lined-within : (ts : List Rule) (i : ℕ) → length (lined (map line_of (take i ts))) ≤ length (lined (map line_of ts))
-lined-within ts i =
-    let whole : lined (map line_of ts) ≡ lined (map line_of (take i ts)) ++ lined (map line_of (drop i ts)) =
-    ap (λ us. lined (map line_of us)) (sym (take-append-drop i ts)) ∙ ap lined (map-append line_of (take i ts) (drop i ts)) ∙ lined-append (map line_of (take i ts)) (map line_of (drop i ts)) in
-    let l = ap length whole ∙ length-append (lined (map line_of (take i ts))) (lined (map line_of (drop i ts))) in omega arith
+    pub rules-to-come : {q : Pen} → Puts p (line_of (get_or ts k d) ++ (10 ∷ [])) q → ToCome q (lined (map line_of (drop (k + 1) ts))) n start whole
+    rules-to-come put =
+        to-come-more (line_of (get_or ts k d) ++ (10 ∷ [])) (lined (map line_of (drop (k + 1) ts)))
+        (subst (λ xs. ToCome p xs n start whole) (ap (λ us. lined (map line_of us)) here ∙ sym (append_assoc (line_of (get_or ts k d)) (10 ∷ []) (lined (map line_of (drop (k + 1) ts))))) t) put
 
-pub lined-all : (ts : List Rule) (i : ℕ) → length ts ≤ i → lined (map line_of (take i ts)) ≡ lined (map line_of ts)
-lined-all ts i h = ap (λ us. lined (map line_of us)) (take_all i ts h)
+  pub rules-put : length ts ≤ k → Puts start whole p
+  rules-put h = to-come-none (subst (λ xs. ToCome p xs n start whole) (at_drop_all (λ us. lined (map line_of us)) ts k h) t)

@@ -1,8 +1,9 @@
 -- Bytes written over a text, and more bytes directly after them.
-use Rattle.std.proofs.Common.{◌≡◌, ℕ, ◌+◌, ◌-◌, ◌≤◌, List, [], ◌++◌, length, take, drop, sym, ap, ◌∙◌, ap₂, append_assoc, add_assoc, zero-add, arith}
+use Rattle.std.proofs.Common.{◌≡◌, ℕ, ◌+◌, ◌-◌, ◌≤◌, List, [], ◌++◌, length, take, drop, refl, sym, ap, ◌∙◌, ap₂, append_assoc, add_assoc, zero-add, arith}
 use Rattle.std.proofs.lemmas.List.{length-append, length-drop, length-take-le, take_at, drop_at, drop-drop, take-append-drop}
 use Rattle.rulefile.specs.Files.{filled}
-use Rattle.writing.specs.Steps.{over}
+use Rattle.writing.specs.declared.pen.Pen.{Pen}
+use Rattle.writing.specs.Steps.{over, HasRoom, Puts}
 
 module _ (xs : List ℕ) (at : ℕ) (ys : List ℕ) (h : at + length ys ≤ length xs) where
   -- what stands up to the end of ys
@@ -35,10 +36,42 @@ over_none xs at = ap (λ k. take at xs ++ drop k xs) (let e : at + 0 ≡ at = om
 pub over-front : (xs ys : List ℕ) → over xs 0 ys ≡ filled ys xs
 over-front xs ys = ap (λ k. ys ++ drop k xs) (zero-add (length ys))
 
--- after xs from `start` on, ys from the place after them
-module _ (base : List ℕ) (start : ℕ) (xs : List ℕ) (h : start + length xs ≤ length base) where
-  pub put-more : {text text' : List ℕ} {next : ℕ} (ys : List ℕ) → text ≡ over base start xs → next ≡ start + length xs → text' ≡ over text next ys → text' ≡ over base start (xs ++ ys)
-  put-more ys e n e' = e' ∙ ap₂ (λ ts k. over ts k ys) e n ∙ over-more base start xs h ys
+-- Bytes put by a pen, and more bytes directly after them.
+pub puts-then : {p q r : Pen} {xs ys : List ℕ} → Puts p xs q → Puts q ys r → Puts p (xs ++ ys) r
+puts-then {p} {q} {r} {xs} {ys} a b =
+    let more = length-append xs ys in
+    let fits = a.fits in
+    let next = a.at in
+    let last = b.at in
+    let room = b.fits in
+    let same = a.size in
+    record {
+      same = b.same ∙ a.same;
+      text = b.text ∙ ap₂ (λ ts k. over ts k ys) a.text a.at ∙ over-more p.text.now p.at xs a.fits ys;
+      at = omega arith;
+      fits = omega arith;
+      size = b.size ∙ a.size;
+    }
 
-  pub next_more : {next next' : ℕ} (ys : List ℕ) → next ≡ start + length xs → next' ≡ next + length ys → next' ≡ start + length (xs ++ ys)
-  next_more ys n n' = n' ∙ ap (λ k. k + length ys) n ∙ add_assoc start (length xs) (length ys) ∙ ap (λ k. start + k) (sym (length-append xs ys))
+puts-none : (p : Pen) → HasRoom p 0 → Puts p [] p
+puts-none p h = record { same = refl; text = sym (over_none p.text.now p.at); at = omega arith; fits = h; size = refl }
+
+-- The bytes xs are still to come where the pen p stands, with room for n bytes after them; once they are put, `whole` stands where the pen
+-- `start` stood.
+pub record ToCome (p : Pen) (xs : List ℕ) (n : ℕ) (start : Pen) (whole : List ℕ) : Type 0 where
+  pub room : HasRoom p (length xs + n)
+  pub puts : (last : Pen) → Puts p xs last → Puts start whole last
+
+pub all-to-come : (start : Pen) (xs : List ℕ) (n : ℕ) → HasRoom start (length xs + n) → ToCome start xs n start xs
+all-to-come start xs n h = record { room = h; puts = λ _ h. h }
+
+pub to-come-more : {p q start : Pen} {n : ℕ} {whole : List ℕ} (xs ys : List ℕ) → ToCome p (xs ++ ys) n start whole → Puts p xs q → ToCome q ys n start whole
+to-come-more xs ys t h =
+    let more = length-append xs ys in
+    let room = t.room in
+    let next = h.at in
+    let same = h.size in
+    record { room = omega arith; puts = λ last k. t.puts last (puts-then h k) }
+
+pub to-come-none : {p start : Pen} {n : ℕ} {whole : List ℕ} → ToCome p [] n start whole → Puts start whole p
+to-come-none {p} t = let room = t.room in t.puts p (puts-none p (omega arith))

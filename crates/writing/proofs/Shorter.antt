@@ -1,138 +1,152 @@
 -- The text of a list is at most one byte longer than any file that holds the list.
-use Rattle.std.proofs.Common.{◌≡◌, ℕ, zero, suc, ◌+◌, ◌<◌, ◌≤◌, Bool, true, false, cond, not, ◌&&◌, eqb, ◌⊎◌, List, [], ◌∷◌, map, length, Some, None, sym, refl, ap, ◌∙◌, ap₂, inl, inr, ⊎_elim, add-one, arith, length-append}
-use Rattle.std.specs.Option.{option_to_list}
+use Rattle.std.proofs.Common.{◌≡◌, ℕ, suc, ◌+◌, ◌≤◌, Bool, true, false, cond, not, ◌&&◌, eqb, List, [], ◌∷◌, ◌++◌, map, length, refl, sym, ap, ◌∙◌, ap₂, subst, ⊎_elim, arith, length-append}
+use mathlib.Core.Bool.{and-false}
 use Rattle.std.specs.List.{flat_map}
-use Rattle.std.proofs.lemmas.Bool.{both_ways, cases_eq, or_cases, and_parts, not-true, eq-eqb, ne_eqb, eqb-false, cond-true, cond-false, cond_both}
+use Rattle.std.proofs.lemmas.Bool.{both_ways, cases_Bool, eq-eqb, or_cases, or_left, or_right, and_parts, not-true}
+use Rattle.std.proofs.lemmas.Bool.Decides.{nat_tests}
 use Rattle.lines.specs.Lines.{Span, Lines, none, more}
 use Rattle.lines.proofs.Split.{lines-cases, first-cases, no-first}
-use Rattle.ladders.specs.Sets.{holds}
 use Rattle.rules.specs.declared.rule.Rule.{Rule}
 use Rattle.rules.specs.declared.letter.Letter.{Letter}
 use Rattle.rulefile.specs.declared.grammar.Grammar.{Grammar}
 use Rattle.rulefile.specs.declared.grammar.Name.{Name}
 use Rattle.rulefile.specs.declared.grammar.Name.TheVariants.{Condition, Post}
 use Rattle.rulefile.specs.declared.grammar.Item.{Item}
-use Rattle.rulefile.specs.Items.{any, same_name, item, text, spelled, Means, Spells}
-use Rattle.rulefile.specs.Files.{Say, nothing, silence, a-rule, ByGrammar}
-use Rattle.writing.specs.Written.{floor_item, rising, line_of, lined, written}
-use Rattle.writing.specs.Steps.{placed_item}
-use Rattle.writing.proofs.Places.{text-start, text-more, line-placed, placed-cases}
-use Rattle.writing.proofs.Sayings.{same-name, floor-named}
+use Rattle.rulefile.specs.Items.{any, same_name, text, spelled, Known, Within, Follow, Means, Spells}
+use Rattle.rulefile.specs.Files.{grammar, Say, nothing, silence, a-rule, ByGrammar}
+use Rattle.writing.specs.Written.{written_items, line_of, lined, written}
+use Rattle.writing.specs.Steps.{CanSay}
+use Rattle.writing.proofs.Lines.{line-is}
+use Rattle.writing.proofs.Orderly.{any_append, written-follows, written-means, floor-part}
+use Rattle.writing.proofs.Sayings.{same-name, named-before, tested-named, floor-named, can-say}
 
--- The place of an item in the written order.
-abbrev place : Bool → Name → ℕ
-place b (Condition c) = 9 + c
-place true (Post p) = 1 + p
-place false (Post p) = 0
+abbrev weight : List Item → ℕ
+weight is = length (flat_map spelled is)
 
-abbrev weight : Item → ℕ
-weight i = length (spelled i)
+abbrev same : Bool → Bool → Bool
+same true b = b
+same false b = not b
 
--- how much of the item's bytes stand at the place k, and below the place n
-abbrev at_place : ℕ → Item → ℕ
-at_place k i = cond (eqb (place i.barred i.name) k) (weight i) 0
+-- an item with this bar and this name
+abbrev test : Bool → Name → Item → Bool
+test b y i = same b i.barred && same_name i.name y
 
-abbrev below-place : ℕ → Item → ℕ
-below-place zero i = 0
-below-place (suc n) i = below-place n i + at_place n i
+same-bar : (b c : Bool) → same b c ≡ true → c ≡ b
+same-bar true c e = e
+same-bar false c e = not-true c e
 
--- no more than all of them
-below-weight : (n : ℕ) (i : Item) → (below-place n i ≡ 0) ⊎ ((place i.barred i.name < n) × (below-place n i ≡ weight i))
-below-weight zero i = inl refl
-below-weight (suc n) i =
+same-self : (b : Bool) → same b b ≡ true
+same-self true = refl
+same-self false = refl
+
+name-self : (y : Name) → same_name y y ≡ true
+name-self (Condition c) = eq-eqb c c refl
+name-self (Post p) = eq-eqb p p refl
+
+-- the items with other names
+abbrev others : Name → List Item → List Item
+others y [] = []
+others y (i ∷ is) = cond (same_name i.name y) (others y is) (i ∷ others y is)
+
+weight-more : (i : Item) (is : List Item) → weight (i ∷ is) ≡ length (spelled i) + weight is
+weight-more i is = length-append (spelled i) (flat_map spelled is)
+
+others-weight : (y : Name) (i : Item) (is : List Item) → weight (others y (i ∷ is)) ≤ length (spelled i) + weight (others y is)
+others-weight y i is =
+    by (same_name i.name y)
+  where
+    by : (b : Bool) → weight (cond b (others y is) (i ∷ others y is)) ≤ length (spelled i) + weight (others y is)
+    by true = omega arith
+    by false = let e = weight-more i (others y is) in omega arith
+
+lighter : (y : Name) (is : List Item) → weight (others y is) ≤ weight is
+lighter y [] = omega arith
+lighter y (i ∷ is) = let one = others-weight y i is in let rest = lighter y is in let e = weight-more i is in omega arith
+
+-- without the items of a name, one of which is there, there is less
+without : (b : Bool) (y : Name) (is : List Item) → any (test b y) is ≡ true → weight (others y is) + length (text b y) ≤ weight is
+without b y [] e = absurd (both_ways false refl e)
+without b y (i ∷ is) e =
+    let whole = weight-more i is in
     ⊎_elim
-    (λ (e : place i.barred i.name ≡ n).
-    let here : at_place n i ≡ weight i = cond-true (eqb (place i.barred i.name) n) _ _ (eq-eqb (place i.barred i.name) n e) in
-    ⊎_elim (λ (z : below-place n i ≡ 0). inr (omega arith, omega arith)) (λ h. let l = h.0 in absurd (omega arith)) (below-weight n i))
-    (λ ne.
-    let here : at_place n i ≡ 0 = cond-false (eqb (place i.barred i.name) n) _ _ (ne_eqb (place i.barred i.name) n ne) in
-    ⊎_elim (λ (z : below-place n i ≡ 0). inl (omega arith)) (λ h. let l = h.0 in let e = h.1 in inr (omega arith, omega arith)) (below-weight n i))
-    (cases_eq (place i.barred i.name) n)
+    (λ (p : test b y i ≡ true).
+    let both = and_parts (same b i.barred) (same_name i.name y) p in
+    let gone : others y (i ∷ is) ≡ others y is = ap (λ b. cond b (others y is) (i ∷ others y is)) both.1 in
+    let long : length (spelled i) ≡ length (text b y) = ap₂ (λ b y. length (text b y)) (same-bar b i.barred both.0) (same-name i.name y both.1) in
+    let less = lighter y is in
+    let left = ap weight gone in omega arith)
+    (λ (p : any (test b y) is ≡ true). let rest = without b y is p in let one = others-weight y i is in omega arith)
+    (or_cases (test b y i) (any (test b y) is) e)
 
--- the bytes of all items at a place, and below it
-abbrev all-at : ℕ → List Item → ℕ
-all-at k [] = 0
-all-at k (i ∷ is) = at_place k i + all-at k is
-
-abbrev all-below-place : ℕ → List Item → ℕ
-all-below-place n [] = 0
-all-below-place n (i ∷ is) = below-place n i + all-below-place n is
-
-below_more : (n : ℕ) (is : List Item) → all-below-place (suc n) is ≡ all-below-place n is + all-at n is
-below_more n [] = refl
-below_more n (i ∷ is) = let e = below_more n is in omega arith
-
-below_all : (n : ℕ) (is : List Item) → all-below-place n is ≤ length (flat_map spelled is)
-below_all n [] = omega arith
-below_all n (i ∷ is) =
-    let le = below_all n is in
-    let l = length-append (spelled i) (flat_map spelled is) in
-    ⊎_elim (λ (z : below-place n i ≡ 0). omega arith) (λ h. let e = h.1 in omega arith) (below-weight n i)
-
--- where some item stands at the place, its bytes count there
-some_at : (f : Item → Bool) (k w : ℕ) (is : List Item) → any f is ≡ true → ((i : Item) → f i ≡ true → (place i.barred i.name ≡ k) × (w ≡ weight i)) → w ≤ all-at k is
-some_at f k w [] h each = absurd (both_ways false refl h)
-some_at f k w (i ∷ is) h each =
+-- what passes and has another name is still there
+still : (f : Item → Bool) (y : Name) (is : List Item) → ((i : Item) → f i ≡ true → same_name i.name y ≡ false) → any f is ≡ true → any f (others y is) ≡ true
+still f y [] apart e = e
+still f y (i ∷ is) apart e =
     ⊎_elim
-    (λ (e : f i ≡ true).
-    let (p, q) = each i e in
-    let here : at_place k i ≡ weight i = cond-true (eqb (place i.barred i.name) k) _ _ (eq-eqb (place i.barred i.name) k p) in omega arith)
-    (λ (e : any f is ≡ true). let le = some_at f k w is e each in omega arith)
-    (or_cases (f i) (any f is) h)
+    (λ (p : f i ≡ true). ap (λ b. any f (cond b (others y is) (i ∷ others y is))) (apart i p) ∙ or_left (f i) (any f (others y is)) p)
+    (λ (p : any f is ≡ true). by (same_name i.name y) (still f y is apart p))
+    (or_cases (f i) (any f is) e)
+  where
+    by : (b : Bool) → any f (others y is) ≡ true → any f (cond b (others y is) (i ∷ others y is)) ≡ true
+    by true e = e
+    by false e = or_right (f i) (any f (others y is)) e
 
--- the place and the weight of an item with this name, plain or barred
-named-at : (p : Bool) (y : Name) (k : ℕ) → place p y ≡ k → (i : Item) → i.barred ≡ p → same_name i.name y ≡ true → (place i.barred i.name ≡ k) × (length (text p y) ≡ weight i)
-named-at p y k e i b s = let n = same-name i.name y s in (ap₂ place b n ∙ e, sym (ap₂ (λ q x. length (text q x)) b n))
+-- Items that follow one another, each of which is among others, are no longer.
+no-longer : (g : Grammar) (before ws is : List Item) → Follow g before ws → ((b : Bool) (y : Name) → any (test b y) ws ≡ true → any (test b y) is ≡ true) → weight ws ≤ weight is
+no-longer g before [] is f each = omega arith
+no-longer g before (w ∷ ws) is f each =
+    let bar = same-self w.barred in
+    let name = name-self w.name in
+    let here = without w.barred w.name is (each w.barred w.name (grind (arith, nat_tests))) in
+    let rest = no-longer g (before ++ (w ∷ [])) ws (others w.name is) f.1
+    (λ b y e. still (test b y) w.name is (λ i p. apart b y i p e) (each b y (or_right (test b y w) (any (test b y) ws) e))) in
+    let whole = weight-more w ws in omega arith
+  where
+    -- what is named later has another name
+    apart : (b : Bool) (y : Name) (i : Item) → test b y i ≡ true → any (test b y) ws ≡ true → same_name i.name w.name ≡ false
+    apart b y i p e =
+        let longer = any_append (λ j. same_name j.name w.name) before (w ∷ []) in
+        let self = name-self w.name in
+        ⊎_elim
+        (λ (s : same_name i.name w.name ≡ true).
+        let y-is : y ≡ w.name = sym (same-name i.name y (and_parts (same b i.barred) (same_name i.name y) p).1) ∙ same-name i.name w.name s in
+        absurd (named-before g w.name (before ++ (w ∷ [])) ws f.1 (grind (arith, nat_tests)) (subst (λ y. any (λ j. same_name j.name y) ws ≡ true) y-is (tested-named (λ j. same b j.barred) y ws e))))
+        (λ (s : same_name i.name w.name ≡ false). s)
+        (cases_Bool (same_name i.name w.name))
 
-named-plain : (y : Name) (k : ℕ) → place false y ≡ k → (i : Item) → (not i.barred && same_name i.name y) ≡ true → (place i.barred i.name ≡ k) × (2 ≡ weight i)
-named-plain y k e i h = let both = and_parts (not i.barred) (same_name i.name y) h in named-at false y k e i (not-true i.barred both.0) both.1
-
-named-barred : (y : Name) (k : ℕ) → place true y ≡ k → (i : Item) → (i.barred && same_name i.name y) ≡ true → (place i.barred i.name ≡ k) × (3 ≡ weight i)
-named-barred y k e i h = let both = and_parts i.barred (same_name i.name y) h in named-at true y k e i both.0 both.1
-
-module _ (is : List Item) (t : Rule) (m : Means is t) where
-  -- what is written at a place, some item has there
-  no-more-at : (k : ℕ) → length (flat_map spelled (option_to_list (placed_item t k))) ≤ all-at k is
-  no-more-at k =
-      placed-cases t k (λ o. length (flat_map spelled (option_to_list o)) ≤ all-at k is)
-      (λ z. by-floor (λ ne. some_at (λ i. not i.barred && same_name i.name (Post t.floor)) k 2 is (floor-named is t m ne) (named-plain (Post t.floor) k (sym z))))
-      (λ p _ e.
-      by-post p (holds t.barred_posts p)
-      (λ h. some_at (λ i. i.barred && same_name i.name (Post p)) k 3 is (sym (m.posts p) ∙ h) (named-barred (Post p) k (sym e))))
-      (λ c e.
-      by_condition c (holds t.needed c) (holds t.barred c)
-      (λ h. some_at (λ i. not i.barred && same_name i.name (Condition c)) k 2 is (sym (m.needed c) ∙ h) (named-plain (Condition c) k (sym e)))
-      (λ h. some_at (λ i. i.barred && same_name i.name (Condition c)) k 3 is (sym (m.barred c) ∙ h) (named-barred (Condition c) k (sym e))))
-    where
-      by-floor : {n : ℕ} → ((t.floor ≡ 0 → ⊥) → 2 ≤ n) → length (flat_map spelled (option_to_list (floor_item t))) ≤ n
-      by-floor {n} h =
-          cond_both (eqb t.floor 0) None (Some (item false (Post t.floor))) (λ o. length (flat_map spelled (option_to_list o)) ≤ n) (λ _. omega arith)
-          (λ e. h (eqb-false t.floor 0 e))
-
-      by-post : {n : ℕ} (p : ℕ) (b : Bool) → (b ≡ true → 3 ≤ n) → length (flat_map spelled (option_to_list (cond b (Some (item true (Post p))) None))) ≤ n
-      by-post p true h = h refl
-      by-post p false h = omega arith
-
-      by_condition : {n : ℕ} (c : ℕ) (a b : Bool) → (a ≡ true → 2 ≤ n) → (b ≡ true → 3 ≤ n) → length (flat_map spelled (option_to_list (cond a (Some (item false (Condition c))) (cond b (Some (item true (Condition c))) None)))) ≤ n
-      by_condition c true b h k = h refl
-      by_condition c false true h k = k refl
-      by_condition c false false h k = omega arith
-
-  no-more-below : (n : ℕ) → length (flat_map spelled (rising (placed_item t) n)) ≤ all-below-place n is
-  no-more-below zero = let e = ap length (text-start (placed_item t)) in omega arith
-  no-more-below (suc n) =
-      let le = no-more-below n in
-      let here = no-more-at n in
-      let more = ap (λ k. length (flat_map spelled (rising (placed_item t) k))) (sym (add-one n)) ∙ ap length (text-more (placed_item t) n (placed_item t n) refl) ∙ length-append (flat_map spelled (rising (placed_item t) n)) (flat_map spelled (option_to_list (placed_item t n))) in
-      let b = below_more n is in omega arith
+-- Every name with a letter or a digit is in range where there are nine conditions and eight posts.
+widest : (g : Grammar) (before is : List Item) → Follow g before is → Follow (grammar g.letter 9 8) before is
+widest g before [] f = tt
+widest g before (i ∷ is) f =
+    (record { known = f.0.known; within = in-range i.name f.0.known; new = f.0.new; bar = f.0.bar }, widest g (before ++ (i ∷ [])) is f.1)
+  where
+    in-range : (y : Name) → Known y → Within (grammar g.letter 9 8) y
+    in-range (Condition c) h = h
+    in-range (Post p) h = h
 
 -- The line that is written is no longer than any that gives the rule.
 pub line-shortest : (g : Grammar) (x : List ℕ) (t : Rule) → Spells g x t → length (line_of t) ≤ length x
 line-shortest g x t s =
+    let items = no-longer g9 [] (written_items t) s.items (written-follows g9 t (omega arith) (omega arith) can) among in
     let a = ap length s.bytes in
-    let b = ap length (line-placed t) in
-    let c = no-more-below s.items t s.means 18 in
-    let d = below_all 18 s.items in omega arith
+    let b = ap length (line-is t) in omega arith
+  where
+    g9 : Grammar
+    g9 = grammar g.letter 9 8
+
+    can : CanSay g9 t
+    can = can-say g9 t (omega arith) s.items (widest g [] s.items s.follow) s.means s.mark
+
+    wide : Means (written_items t) t
+    wide = written-means g9 t (omega arith) (omega arith) can
+
+    among : (b : Bool) (y : Name) → any (test b y) (written_items t) ≡ true → any (test b y) s.items ≡ true
+    among true (Condition c) e = sym (s.means.barred c) ∙ wide.barred c ∙ e
+    among true (Post p) e = sym (s.means.posts p) ∙ wide.posts p ∙ e
+    among false (Condition c) e = sym (s.means.needed c) ∙ wide.needed c ∙ e
+    among false (Post p) e =
+        let named = (and_parts (not (eqb t.floor 0)) (eqb t.floor p) (sym (floor-part g9 t (omega arith) (omega arith) can (test false (Post p)) (λ b _. and-false (not b)) (λ q. refl)) ∙ e)).0 in
+        subst (λ q. any (test false (Post q)) s.items ≡ true) (wide.floor p e) (floor-named s.items t s.means (λ z. both_ways (eqb t.floor 0) (not-true (eqb t.floor 0) named) (eq-eqb t.floor 0 z)))
 
 -- the bytes of lines, each with one that ends it
 abbrev ended-length : List Span → ℕ

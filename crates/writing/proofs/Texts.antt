@@ -1,7 +1,6 @@
 -- The text of a lawful list, read back, is the list.
 use Rattle.std.proofs.Common.{◌≡◌, ℕ, suc, ◌+◌, ◌-◌, ◌≤◌, List, [], ◌∷◌, ◌++◌, map, length, Ok, Err, Result, sym, refl, ap, ◌∙◌, subst, ap₂, arith}
 use Rattle.std.specs.List.{AllByRecursion}
-use Rattle.std.proofs.ByRecursion.{All-weaker}
 use Rattle.lines.specs.Lines.{Span, span, Unbroken, ended, Lines, none, more}
 use Rattle.rules.specs.declared.rule.Rule.{Rule}
 use Rattle.rules.specs.declared.letter.Letter.{Letter}
@@ -20,20 +19,20 @@ spelled-unbroken : (g : Grammar) (x : List ℕ) (t : Rule) → Spells g x t → 
 spelled-unbroken g x t s = subst Unbroken (sym s.bytes) (mark-unbroken t.effect, items-unbroken s.items (follow-known g [] s.items s.follow))
 
 -- the lines of the rules, of which the first has the number k and the offset s
-rules-written : (g : Grammar) (k s : ℕ) (ts : List Rule) → AllByRecursion (λ t. Spells g (line_of t) t) ts → (ls : List Span) × (Lines k s (lined (map line_of ts)) ls × Say g ls ts)
-rules-written g k s [] h = ([], (none, nothing))
-rules-written g k s (t ∷ ts) (h, hs) =
+rules-written : (g : Grammar) → 1 ≤ g.posts → g.posts ≤ 8 → g.conditions ≤ 9 → (k s : ℕ) (ts : List Rule) → AllByRecursion (Sayable g) ts
+    → (ls : List Span) × (Lines k s (lined (map line_of ts)) ls × Say g ls ts)
+rules-written g some few-posts few k s [] h = ([], (none, nothing))
+rules-written g some few-posts few k s (t ∷ ts) (h, hs) =
     let text : List ℕ = lined (map line_of ts) in
-    let r = rules-written g (suc k) (s + (length (line_of t ++ (10 ∷ text)) - length text)) ts hs in
-    (span k s (line_of t) ∷ r.0, (more (ended (spelled-unbroken g (line_of t) t h)) r.1.0, a-rule h r.1.1))
+    let line = written-spells g t few-posts few (sayable-can g t some h) in
+    let r = rules-written g some few-posts few (suc k) (s + (length (line_of t ++ (10 ∷ text)) - length text)) ts hs in
+    (span k s (line_of t) ∷ r.0, (more (ended (spelled-unbroken g (line_of t) t line)) r.1.0, a-rule line r.1.1))
 
 module _ (posts : ℕ) (letter : Letter) (n : ℕ) (ts : List Rule) (some : 1 ≤ posts) (few-posts : posts ≤ 8) (lawful : LawfulList posts letter n ts) where
   by-grammar : ByGrammar posts (written letter n ts) letter n ts
   by-grammar =
-      let g : Grammar = grammar letter n posts in
       let text : List ℕ = lined (map line_of ts) in
-      let spells = All-weaker (Sayable g) (λ t. Spells g (line_of t) t) (λ t s. written-spells g t few-posts lawful.0 (sayable-can g t some s)) ts lawful.1 in
-      let r = rules-written g 2 (0 + (length (head_line letter n ++ (10 ∷ text)) - length text)) ts spells in
+      let r = rules-written (grammar letter n posts) some few-posts lawful.0 2 (0 + (length (head_line letter n ++ (10 ∷ text)) - length text)) ts lawful.1 in
       record {
         first = span 1 0 (head_line letter n);
         rest = r.0;

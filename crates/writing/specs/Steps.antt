@@ -1,42 +1,75 @@
 -- What the inner functions of writing answer, step by step. No public contract cites it.
-use Rattle.std.specs.Prelude.{ℕ, ◌+◌, ◌-◌, ◌/◌, ◌^◌, Bool, true, false, cond, not, ◌&&◌, ◌||◌, List, ◌++◌, length, take, drop, Option, ◌==◌, bit_and, nat_le, nat_lt}
+use Rattle.std.specs.Prelude.{◌≡◌, ℕ, ◌+◌, ◌-◌, ◌<◌, ◌≤◌, true, false, List, ◌++◌, length, take, drop, Option}
+use Rattle.std.specs.List.{AllByRecursion, filter_map, range_with_len}
+use Rattle.std.specs.Option.{option_to_list}
+use Rattle.std.specs.declared.ops.Range.{Range}
 use Rattle.ladders.specs.Sets.{holds}
-use Rattle.rules.specs.declared.rule.Effect.{Effect}
-use Rattle.rules.specs.declared.rule.Effect.TheVariants.{Permit, Deny}
+use Rattle.rules.specs.declared.rule.Effect.TheVariants.{Permit}
 use Rattle.rules.specs.declared.rule.Rule.{Rule}
 use Rattle.rules.specs.declared.letter.Letter.{Letter}
 use Rattle.rules.specs.declared.letter.Letter.TheVariants.{Guarded, Model}
-use Rattle.rules.specs.Rules.{bars_nothing}
 use Rattle.rulefile.specs.declared.grammar.Grammar.{Grammar}
 use Rattle.rulefile.specs.declared.grammar.Item.{Item}
-use Rattle.writing.specs.Written.{floor_item, post_item, condition_item}
+use Rattle.rulefile.specs.Items.{Known}
+use Rattle.writing.specs.Written.{post_item, condition_item, written_items}
+use Rattle.writing.specs.declared.order.Items.{Items}
+use Rattle.writing.specs.declared.pen.Pen.{Pen}
+
+-- the members of a set are below n
+abbrev pub Below : ℕ → ℕ → Type 0
+Below set n = (c : ℕ) → holds set c ≡ true → c < n
+
+-- no member of a set is one of the other
+abbrev pub Apart : ℕ → ℕ → Type 0
+Apart set other = (c : ℕ) → holds set c ≡ true → holds other c ≡ false
 
 -- a rule names only what there is
-abbrev pub in_range : Grammar → Rule → Bool
-in_range g t =
-    nat_lt t.floor g.posts
-    && (t.needed / 2 ^ g.conditions == 0 && (t.barred / 2 ^ g.conditions == 0 && t.barred_posts / 2 ^ g.posts == 0))
+pub record InRange (g : Grammar) (t : Rule) : Type 0 where
+  pub floor : t.floor < g.posts
+  pub needed : Below t.needed g.conditions
+  pub barred : Below t.barred g.conditions
+  pub posts : Below t.barred_posts g.posts
 
 -- it names nothing twice
-abbrev pub names_once : Rule → Bool
-names_once t = bit_and t.needed t.barred == 0 && (t.floor == 0 || not (holds t.barred_posts t.floor))
+pub record NamesOnce (t : Rule) : Type 0 where
+  pub conditions : Apart t.needed t.barred
+  pub posts : 0 < t.floor → holds t.barred_posts t.floor ≡ false
 
-abbrev pub permits : Effect → Bool
-permits Permit = true
-permits Deny = false
+-- its letter allows it: a guarded list has no deny rules, and a list of a model bars nothing
+abbrev pub Allowed : Letter → Rule → Type 0
+Allowed Guarded t = t.effect ≡ Permit
+Allowed (Model m) t = (t.barred ≡ 0) × (t.barred_posts ≡ 0)
 
--- its letter allows it
-abbrev pub allowed : Letter → Rule → Bool
-allowed Guarded t = permits t.effect
-allowed (Model m) t = bars_nothing t
+-- so some line can give it
+pub record CanSay (g : Grammar) (t : Rule) : Type 0 where
+  pub range : InRange g t
+  pub once : NamesOnce t
+  pub allowed : Allowed g.letter t
 
-abbrev pub can_say : Grammar → Rule → Bool
-can_say g t = in_range g t && (names_once t && allowed g.letter t)
+-- the items that f gives for the numbers of a range
+abbrev pub picked : (ℕ → Option Item) → Range ℕ → List Item
+picked f r = filter_map f (range_with_len r.start (r.end - r.start))
 
--- the item at a place of the written order: the floor post at 0, post p at 1 + p, condition c at 9 + c
-abbrev pub placed_item : Rule → ℕ → Option Item
-placed_item t k = cond (k == 0) (floor_item t) (cond (nat_le k 8) (post_item t (k - 1)) (condition_item t (k - 9)))
+-- the items of a rule that are still to come
+abbrev pub items_left : Items → List Item
+items_left s = option_to_list s.floor ++ (picked (post_item s.rule.now) s.posts ++ picked (condition_item s.rule.now) s.conditions)
 
 -- the bytes ys written over xs from the place `at` on
 abbrev pub over : List ℕ → ℕ → List ℕ → List ℕ
 over xs at ys = take at xs ++ (ys ++ drop (at + length ys) xs)
+
+-- each item of the rule has a letter or digit
+abbrev pub Named : Rule → Type 0
+Named t = AllByRecursion (λ i. Known i.name) (written_items t)
+
+-- there is room for n bytes where the pen stands
+abbrev pub HasRoom : Pen → ℕ → Type 0
+HasRoom p n = p.at + n ≤ length p.text.now
+
+-- the bytes xs are written where the pen p stood, and q stands after them, over the same text
+pub record Puts (p : Pen) (xs : List ℕ) (q : Pen) : Type 0 where
+  pub same : q.text.ghost_name ≡ p.text.ghost_name
+  pub text : q.text.now ≡ over p.text.now p.at xs
+  pub at : q.at ≡ p.at + length xs
+  pub fits : HasRoom p (length xs)
+  pub size : length q.text.now ≡ length p.text.now

@@ -4,6 +4,7 @@
 mod line_text;
 mod list_text;
 mod order;
+mod pen;
 mod refusal;
 mod saying;
 mod writer;

@@ -1,17 +1,17 @@
 // The text of one rule: how long it is, and writing it.
-ghost use Rattle.std.specs.Prelude.{◌≡◌, ◌+◌, ◌<◌, ◌≤◌, [], ◌∷◌, ◌++◌, length};
+ghost use Rattle.std.specs.Prelude.{◌≡◌, ◌+◌, [], ◌∷◌, ◌++◌, length};
 ghost use Rattle.rulefile.specs.Items.{Known, byte_of, spelled, mark_of};
 ghost use Rattle.writing.specs.Written.{line_of};
-ghost use Rattle.writing.specs.Steps.{over};
+ghost use Rattle.writing.specs.Steps.{HasRoom, Named, Puts};
 
-use crate::order::{PLACES, item_at};
+use crate::order::Items;
+use crate::pen::Pen;
 use rulefile::{Item, Name};
 use rules::{Effect, Rule};
 
 // How many bytes an item has.
 fn item_len(item: Item) -> u16
-    ensures value { result ≡ length (spelled item) }
-    ensures few { result ≤ 3 }
+    ensures { result ≡ length (spelled item) }
 {
     if item.barred { 3 } else { 2 }
 }
@@ -20,27 +20,10 @@ fn item_len(item: Item) -> u16
 pub(crate) fn line_len(rule: &Rule) -> u16
     ensures { result ≡ length (line_of rule.now) + 1 }
 {
-    let mut len = 2;
-    for place in 0..PLACES {
-        if let Some(item) = item_at(rule, place) {
-            len += item_len(item);
-        }
-    }
-    len
+    2 + Items::of(rule).map(item_len).sum::<u16>()
 }
 
-// Writes bytes over the text from a place on, and answers the place after them.
-pub(crate) fn put(text: &mut [u8], at: usize, bytes: &[u8]) -> usize
-    requires { at + length bytes.now ≤ length text.old }
-    ensures text { text.new ≡ over text.old at bytes.now }
-    ensures next { result ≡ at + length bytes.now }
-{
-    let end = at + bytes.len();
-    text[at..end].copy_from_slice(bytes);
-    end
-}
-
-// The letter or digit of a name.
+// The letter or digit of a name. A function, since `Name` is another crate's, and so is `u8`: no `From` may stand here.
 fn name_byte(name: Name) -> u8
     requires { Known name }
     ensures { result ≡ byte_of name }
@@ -51,20 +34,7 @@ fn name_byte(name: Name) -> u8
     }
 }
 
-// Writes an item.
-fn put_item(text: &mut [u8], at: usize, item: Item) -> usize
-    requires { (Known item.name) × (at + length (spelled item) ≤ length text.old) }
-    ensures text { text.new ≡ over text.old at (spelled item) }
-    ensures next { result ≡ at + length (spelled item) }
-{
-    let byte = name_byte(item.name);
-    if item.barred {
-        put(text, at, &[b' ', b'!', byte])
-    } else {
-        put(text, at, &[b' ', byte])
-    }
-}
-
+// The byte of an effect, in a function for the same reason.
 fn mark_of(effect: Effect) -> u8
     ensures { result ≡ mark_of effect }
 {
@@ -74,17 +44,28 @@ fn mark_of(effect: Effect) -> u8
     }
 }
 
-// Writes the line of a rule with its byte 10, and answers the place after it.
-pub(crate) fn put_line(text: &mut [u8], at: usize, rule: &Rule) -> usize
-    requires { (rule.now.floor < 8) × (at + (length (line_of rule.now) + 1) ≤ length text.old) }
-    ensures text { text.new ≡ over text.old at (line_of rule.now ++ (10 ∷ [])) }
-    ensures next { result ≡ at + (length (line_of rule.now) + 1) }
-{
-    let mut next = put(text, at, &[mark_of(rule.effect)]);
-    for place in 0..PLACES {
-        if let Some(item) = item_at(rule, place) {
-            next = put_item(text, next, item);
+impl Pen<'_> {
+    fn put_item(&mut self, item: Item)
+        requires { Known item.name × HasRoom self.old (length (spelled item)) }
+        ensures { Puts self.old (spelled item) self.new }
+    {
+        let byte = name_byte(item.name);
+        if item.barred {
+            self.put(&[b' ', b'!', byte]);
+        } else {
+            self.put(&[b' ', byte]);
         }
     }
-    put(text, next, b"\n")
+
+    // Writes the line of a rule with its byte 10.
+    pub(crate) fn put_line(&mut self, rule: &Rule)
+        requires { Named rule.now × HasRoom self.old (length (line_of rule.now) + 1) }
+        ensures { Puts self.old (line_of rule.now ++ (10 ∷ [])) self.new }
+    {
+        self.put(&[mark_of(rule.effect)]);
+        for item in Items::of(rule) {
+            self.put_item(item);
+        }
+        self.put(b"\n");
+    }
 }

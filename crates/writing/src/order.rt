@@ -1,62 +1,87 @@
 // The items of a rule in the order in which they are written.
-ghost use Rattle.std.specs.Prelude.{◌≡◌, ◌<◌};
-ghost use Rattle.writing.specs.Written.{floor_item, post_item, condition_item};
-ghost use Rattle.writing.specs.Steps.{placed_item};
+ghost use Rattle.std.specs.Prelude.{◌≡◌, true, false};
+ghost use Rattle.std.specs.Iterator.{YieldsFirst, item_count};
+ghost use Rattle.rulefile.specs.Items.{item};
+ghost use Rattle.writing.specs.Written.{floor_item, post_item, condition_item, written_items};
+ghost use Rattle.writing.specs.Steps.{items_left};
 
 use ladders::has;
 use rulefile::{Item, Name};
 use rules::Rule;
+use std::ops::Range;
 
-// How many places there are for items: one for the floor post, eight for barred posts, nine for conditions.
-pub(crate) const PLACES: u8 = 18;
+fn plain(name: Name) -> Item
+    ensures { result ≡ item false name }
+{
+    Item {
+        barred: false,
+        name,
+    }
+}
+
+fn barred(name: Name) -> Item
+    ensures { result ≡ item true name }
+{
+    Item { barred: true, name }
+}
 
 fn floor_item(rule: &Rule) -> Option<Item>
     ensures { result ≡ floor_item rule.now }
 {
-    if rule.floor == 0 {
-        return None;
-    }
-    Some(Item {
-        barred: false,
-        name: Name::Post(rule.floor),
-    })
+    (rule.floor != 0).then_some(plain(Name::Post(rule.floor)))
 }
 
 fn post_item(rule: &Rule, p: u8) -> Option<Item>
     ensures { result ≡ post_item rule.now p }
 {
-    if !has(rule.barred_posts as u16, p) {
-        return None;
-    }
-    Some(Item {
-        barred: true,
-        name: Name::Post(p),
-    })
+    has(rule.barred_posts as u16, p).then_some(barred(Name::Post(p)))
 }
 
 fn condition_item(rule: &Rule, c: u8) -> Option<Item>
     ensures { result ≡ condition_item rule.now c }
 {
     let name = Name::Condition(c);
-    if has(rule.needed, c) {
-        return Some(Item {
-            barred: false,
-            name,
-        });
-    }
-    if has(rule.barred, c) {
-        return Some(Item { barred: true, name });
-    }
-    None
+    let needed = has(rule.needed, c).then_some(plain(name));
+    needed.or(has(rule.barred, c).then_some(barred(name)))
 }
 
-// The item at a place, where the rule has one there.
-pub(crate) fn item_at(rule: &Rule, place: u8) -> Option<Item>
-    ensures { result ≡ placed_item rule.now place }
-{
-    match place {
-        0 => floor_item(rule),
-        1..=8 => post_item(rule, place - 1),
-        _ => condition_item(rule, place - 9),
+// The items that are still to come: the floor post, then barred posts by rising number, then conditions by letter.
+#[derive(Drop)]
+pub(crate) struct Items<'a> {
+    rule: &'a Rule,
+    floor: Option<Item>,
+    posts: Range<u8>,
+    conditions: Range<u8>,
+}
+
+impl<'a> Items<'a> {
+    pub(crate) fn of(rule: &'a Rule) -> Items<'a>
+        ensures { items_left result ≡ written_items rule.now }
+    {
+        Items {
+            rule,
+            floor: floor_item(rule),
+            posts: 0..8,
+            conditions: 0..9,
+        }
+    }
+}
+
+impl Iterator for Items<'_> {
+    type Item = Item;
+
+    ghost next_gives = { YieldsFirst items_left };
+
+    ghost remaining = { item_count items_left };
+
+    fn next(&mut self) -> Option<Item> {
+        let rule = self.rule;
+        if let Some(item) = self.floor.take() {
+            return Some(item);
+        }
+        if let Some(item) = self.posts.find_map(|p| post_item(rule, p)) {
+            return Some(item);
+        }
+        self.conditions.find_map(|c| condition_item(rule, c))
     }
 }

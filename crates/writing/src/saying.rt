@@ -1,64 +1,94 @@
 // Which rules a line of the grammar can give.
-ghost use Rattle.std.specs.Prelude.{◌≡◌, ◌≤◌, take, Some, MatchOption};
+ghost use Rattle.std.specs.Prelude.{◌≡◌, ◌<◌, ◌≤◌, take, Decides, Some, MatchOption};
 ghost use Rattle.std.specs.List.{slice_get, AllByRecursion};
 ghost use Rattle.rules.specs.declared.rule.Rule.{Rule};
+ghost use Rattle.rulefile.specs.Files.{grammar};
 ghost use Rattle.writing.specs.Writes.{Sayable};
-ghost use Rattle.writing.specs.Steps.{in_range, names_once, allowed, can_say};
+ghost use Rattle.writing.specs.Steps.{Below, Apart, InRange, NamesOnce, Allowed, CanSay};
 
-use ladders::has;
+use ladders::{Ladder, has};
 use rulefile::Grammar;
 use rules::{Effect, Letter, Rule};
 
-// Whether the rule names only conditions and posts that there are.
-fn is_in_range(rule: &Rule, grammar: Grammar) -> bool
-    requires { (grammar.conditions ≤ 9) × (grammar.posts ≤ 8) }
-    ensures { result ≡ in_range grammar rule.now }
+// A grammar whose conditions and posts all have a letter or a digit, and that has a post.
+#[derive(Clone, Copy)]
+pub(crate) struct SmallGrammar {
+    pub(crate) grammar: Grammar,
+    ghost few: { (grammar.conditions ≤ 9) × ((1 ≤ grammar.posts) × (grammar.posts ≤ 8)) },
+}
+
+impl SmallGrammar {
+    // The grammar of lists on the posts of a ladder, where there are nine conditions at most.
+    pub(crate) fn of<L: Ladder>(letter: Letter, conditions: u8, ladder: &L) -> Option<SmallGrammar>
+        ensures { MatchOption result (9 < conditions) (λ g. g.grammar ≡ grammar letter conditions (L.posts ladder.now)) }
+    {
+        if conditions > 9 {
+            return None;
+        }
+        Some(SmallGrammar {
+            grammar: Grammar {
+                letter,
+                conditions,
+                posts: ladder.count(),
+            },
+        })
+    }
+
+    // Whether the rule names only conditions and posts that there are.
+    fn is_in_range(self, rule: &Rule) -> bool
+        ensures { Decides result (InRange self.grammar rule.now) }
+    {
+        let conditions = self.grammar.conditions as usize;
+        (rule.floor as usize) < self.grammar.posts
+            && is_below(rule.needed, conditions)
+            && is_below(rule.barred, conditions)
+            && is_below(rule.barred_posts as u16, self.grammar.posts)
+    }
+
+    // Whether some line gives the rule.
+    fn is_sayable(self, rule: &Rule) -> bool
+        ensures { Decides result (CanSay self.grammar rule.now) }
+    {
+        self.is_in_range(rule) && names_once(rule) && is_allowed(rule, self.grammar.letter)
+    }
+
+    // The slot of the first rule that no line gives.
+    pub(crate) fn first_unsaid(self, rules: &[Rule]) -> Option<usize>
+        ensures { MatchOption result (AllByRecursion (Sayable self.grammar) rules.now) (λ k. AllByRecursion (Sayable self.grammar) (take k rules.now) × ((t : Rule) × ((slice_get rules.now k ≡ Some t) × (Sayable self.grammar t → ⊥)))) }
+    {
+        rules.iter().position(|rule| !self.is_sayable(rule))
+    }
+}
+
+// Whether the members of a set are below n.
+fn is_below(set: u16, n: usize) -> bool
+    requires { n < 16 }
+    ensures { Decides result (Below set n) }
 {
-    let n = grammar.conditions;
-    (rule.floor as usize) < grammar.posts
-        && rule.needed >> n == 0
-        && rule.barred >> n == 0
-        && rule.barred_posts as u16 >> grammar.posts == 0
+    set >> n == 0
+}
+
+// Whether no member of a set is one of another.
+fn are_apart(set: u16, other: u16) -> bool
+    ensures { Decides result (Apart set other) }
+{
+    set & other == 0
 }
 
 // Whether the rule names no condition and no post twice. A floor post 0 need not be named.
 fn names_once(rule: &Rule) -> bool
-    ensures { result ≡ names_once rule.now }
+    ensures { Decides result (NamesOnce rule.now) }
 {
-    rule.needed & rule.barred == 0
+    are_apart(rule.needed, rule.barred)
         && (rule.floor == 0 || !has(rule.barred_posts as u16, rule.floor))
 }
 
 // Whether a list of this letter may have the rule: a guarded list has no deny rules, and a list of a model bars nothing.
 fn is_allowed(rule: &Rule, letter: Letter) -> bool
-    ensures { result ≡ allowed letter rule.now }
+    ensures { Decides result (Allowed letter rule.now) }
 {
     match letter {
-        Letter::Guarded => match rule.effect {
-            Effect::Permit => true,
-            Effect::Deny => false,
-        },
+        Letter::Guarded => rule.effect == Effect::Permit,
         Letter::Model(_) => rule.barred == 0 && rule.barred_posts == 0,
     }
-}
-
-// Whether some line of the grammar gives the rule.
-fn is_sayable(rule: &Rule, grammar: Grammar) -> bool
-    requires { (grammar.conditions ≤ 9) × (grammar.posts ≤ 8) }
-    ensures { result ≡ can_say grammar rule.now }
-{
-    is_in_range(rule, grammar) && names_once(rule) && is_allowed(rule, grammar.letter)
-}
-
-// The slot of the first rule that no line of the grammar gives.
-pub(crate) fn first_unsaid(rules: &[Rule], grammar: Grammar) -> Option<usize>
-    requires { (grammar.conditions ≤ 9) × ((1 ≤ grammar.posts) × (grammar.posts ≤ 8)) }
-    ensures { MatchOption result (AllByRecursion (Sayable grammar) rules.now) (λ k. AllByRecursion (Sayable grammar) (take k rules.now) × ((t : Rule) × ((slice_get rules.now k ≡ Some t) × (Sayable grammar t → ⊥)))) }
-{
-    for (slot, rule) in rules.iter().enumerate() {
-        if !is_sayable(rule, grammar) {
-            return Some(slot);
-        }
-    }
-    None
 }

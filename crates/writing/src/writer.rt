@@ -3,9 +3,8 @@ ghost use Rattle.writing.specs.Writes.{Writes};
 
 use crate::list_text::{put_list, text_len};
 use crate::refusal::Unwritten;
-use crate::saying::first_unsaid;
+use crate::saying::SmallGrammar;
 use ladders::Ladder;
-use rulefile::Grammar;
 use rules::{Letter, Rule};
 
 // Writes a list of this letter, with n conditions and these rules, on the posts of the ladder, and answers how many bytes it wrote; the
@@ -20,20 +19,13 @@ pub fn write<L: Ladder>(
 ) -> Result<usize, Unwritten>
     ensures { Writes (L.posts ladder.now) letter conditions rules.now text.old result text.new }
 {
-    if conditions > 9 {
-        return Err(Unwritten::NoLine(0));
-    }
-    let grammar = Grammar {
-        letter,
-        conditions,
-        posts: ladder.count(),
-    };
-    if let Some(slot) = first_unsaid(rules, grammar) {
+    let grammar = SmallGrammar::of(letter, conditions, ladder).ok_or(Unwritten::NoLine(0))?;
+    if let Some(slot) = grammar.first_unsaid(rules) {
         return Err(Unwritten::NoLine(slot));
     }
     let needed = text_len(rules);
     if (text.len() as u128) < needed {
         return Err(Unwritten::NoRoom(needed));
     }
-    Ok(put_list(text, letter, conditions, rules))
+    Ok(put_list(text, grammar, rules))
 }

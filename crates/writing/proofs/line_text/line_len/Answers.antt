@@ -1,30 +1,28 @@
-use Rattle.std.proofs.Common.{◌≡◌, length, ap, arith}
-use Rattle.std.specs.List.{flat_map}
+use Rattle.std.proofs.Common.{◌≡◌, ◌^◌, length, ap, arith, rules, tests}
+use Rattle.std.specs.List.{sum_by}
+use Rattle.std.proofs.lemmas.List.Concat.{length-flat_map}
+use Rattle.std.proofs.lemmas.Iterator.{YieldsList-from_map}
+use Rattle.std.proofs.lemmas.Iterator.Consumers.{YieldsList-at, YieldsList-from_first, sum_by_from_yields_List, fits_by_from_yields_list}
 use Rattle.rulefile.specs.Items.{spelled}
-use Rattle.writing.specs.Written.{rising}
-use Rattle.writing.specs.Steps.{placed_item}
-use Rattle.writing.proofs.Places.{text-start, text-none, length_some, line-placed}
+use Rattle.writing.specs.Written.{written_items}
+use Rattle.writing.specs.Steps.{items_left}
+use Rattle.writing.proofs.Lines.{line-is, line-short}
 use Rattle.writing.proofs.line_text.line_len.Goals as goal
-use Rattle.writing.proofs.line_text.line_len.Goals.{in-Some, in_default}
 
-pub loop-place-init : goal.loop-place-init
-loop-place-init c = let e = ap length (text-start (placed_item c.args.rule.now)) in (omega arith, omega arith)
+pub sum-requires-clause-fits : goal.sum-requires-clause-fits
+sum-requires-clause-fits c =
+    let t = c.args.rule.now in
+    fits_by_from_yields_list (λ i. length (spelled i)) (written_items t) c.map.result (2 ^ 16)
+    (YieldsList-from_map _ (λ i. length (spelled i)) (YieldsList-at {t = c.of.result} c.map.ensures.source (YieldsList-from_first (λ i. i) items_left {s = c.of.result} (written_items t) c.of.ensures)) c.map.ensures.closure (λ x r q k. search (rules, tests)))
+    (omega (arith, length-flat_map spelled (written_items t), line-short t))
 
-pub loop-place-preserved : goal.loop-place-preserved
-loop-place-preserved c =
-    let inv = c.loop-place.invariant in
-    elim c.match-item_at.branch [
-      | in-Some w ↦
-          let e = length_some (placed_item c.args.rule.now) c.loop-place.place w.in-Some.item w.in-Some.ensures in
-          let l = w.item_len-len.ensures in (omega (arith, w.len-is), omega (arith, w.len-is))
-      | in_default w ↦
-          let e = ap length (text-none (placed_item c.args.rule.now) c.loop-place.place w.in_default.ensures) in (omega (arith, w.len-is), omega (arith, w.len-is))
-    ]
+items : (c : goal.After-sum) → c.sum.result ≡ sum_by (λ i. length (spelled i)) (written_items c.args.rule.now)
+items c =
+    sum_by_from_yields_List (λ i. length (spelled i)) (written_items c.args.rule.now) c.map.result c.sum.result c.sum.ensures.ran
+    (YieldsList-from_map _ (λ i. length (spelled i)) (YieldsList-at {t = c.of.result} c.map.ensures.source (YieldsList-from_first (λ i. i) items_left {s = c.of.result} (written_items c.args.rule.now) c.of.ensures)) c.map.ensures.closure (λ x r q k. search (rules, tests)))
+
+pub overflow_add-result : goal.overflow_add-result
+overflow_add-result c = let t = c.args.rule.now in omega (arith, items c, length-flat_map spelled (written_items t), line-short t)
 
 pub returns : goal.returns
-returns c =
-    let p : c.loop-place.place ≡ 18 = omega arith in
-    let inv = c.loop-place.invariant.0 in
-    let e = ap length (line-placed c.args.rule.now) in
-    let same = ap (λ k. length (flat_map spelled (rising (placed_item c.args.rule.now) k))) p in
-    omega arith
+returns c = let t = c.args.rule.now in omega (arith, items c, length-flat_map spelled (written_items t), ap length (line-is t))

@@ -1,14 +1,23 @@
-use Rattle.std.proofs.Common.{[], ◌∷◌, ◌++◌, map, ◌∙◌, arith}
-use Rattle.rulefile.specs.Files.{head_line}
-use Rattle.writing.specs.Written.{line_of, lined, written}
-use Rattle.writing.proofs.Overs.{put-more, over-front}
+use Rattle.std.proofs.Common.{◌≡◌, ap₂, ◌∙◌, rules}
+use Rattle.rulefile.specs.Files.{filled}
+use Rattle.writing.specs.Written.{written}
+use Rattle.writing.specs.Steps.{over}
+use Rattle.writing.proofs.Overs.{puts-then, over-front}
+use Rattle.writing.proofs.Lined.{blank, named-more, rules-to-come, rules-put}
 use Rattle.writing.proofs.list_text.put_list.Goals as goal
 
-pub returns : goal.returns
-returns c =
-    record {
-      text =
-          put-more c.args.text.now 0 (head_line c.args.letter c.args.conditions ++ (10 ∷ [])) (omega arith) (lined (map line_of c.args.rules.now)) c.put_head-head.ensures.text c.put_head-head.ensures.next c.put_rules.ensures.text
-          ∙ over-front c.args.text.now (written c.args.letter c.args.conditions c.args.rules.now);
-      count = let h = c.put_head-head.ensures.next in let e = c.put_rules.ensures.next in omega arith;
-    }
+pub loop-rule-preserved : goal.loop-rule-preserved
+loop-rule-preserved c =
+    let i = c.loop-rule.invariant in (
+      named-more c.args.rules.now c.loop-rule.rule-index i.0 i.1 blank c.loop-rule-test.true,
+      rules-to-come c.args.rules.now c.loop-rule.rule-index i.0 i.1 blank c.loop-rule-test.true c.put_line.ensures,
+      c.put_line.ensures.same ∙ i.2,
+    )
+
+pub returns-clause-text : goal.returns-clause-text
+returns-clause-text c =
+    let all = puts-then c.put_head.ensures (rules-put c.args.rules.now c.loop-rule.rule-index c.loop-rule.invariant.0 c.loop-rule.invariant.1 c.loop-rule-test.false) in
+    let name = all.same ∙ c.new-pen.ensures.same in
+    let text : c.loop-rule.pen.text.now ≡ filled (written c.args.small.grammar.letter c.args.small.grammar.conditions c.args.rules.now) c.args.text.now =
+    all.text ∙ ap₂ (λ ts k. over ts k (written c.args.small.grammar.letter c.args.small.grammar.conditions c.args.rules.now)) c.new-pen.ensures.text c.new-pen.ensures.start ∙ over-front c.args.text.now (written c.args.small.grammar.letter c.args.small.grammar.conditions c.args.rules.now) in
+    search rules

@@ -1,39 +1,38 @@
-use Rattle.std.proofs.Common.{◌<◌, subst, arith}
+use Rattle.std.proofs.Common.{◌≡◌, ap, subst, arith, rules}
 use Rattle.std.specs.List.{AllByRecursion}
-use Rattle.std.proofs.ByRecursion.{All-weaker}
-use Rattle.rulefile.specs.Files.{grammar}
+use Rattle.rulefile.specs.Files.{grammar, filled}
+use Rattle.rulefile.specs.declared.grammar.Grammar.{Grammar}
+use Rattle.writing.specs.Written.{written}
 use Rattle.writing.specs.Writes.{Sayable, LawfulList}
-use Rattle.writing.proofs.Sayings.{sayable-can}
+use Rattle.writing.proofs.Sayings.{all-named}
 use Rattle.writing.proofs.Texts.{read_back}
 use Rattle.writing.proofs.writer.write.Goals as goal
 
 pub put_list-requires : goal.put_list-requires
 put_list-requires g c =
-    let laws = g.met.L.Ladder.lawful c.args.ladder.now in
-    let k = c.count.ensures in
-    let few = laws.few in
-    let some = laws.some in
-    let g' = grammar c.args.letter c.args.conditions c.count.result in
-    let e = c.text_len-needed.ensures in (
-      omega arith,
-      (All-weaker (Sayable g') (λ t. t.floor < 8) (λ t s. let low = (sayable-can g' t (omega arith) s).floor in omega arith) c.args.rules.now c.in_default.ensures, omega arith),
-    )
+    let few = c.in_ok-grammar.grammar.few in
+    let e = c.text_len-needed.ensures in
+    (all-named c.in_ok-grammar.grammar.grammar few.1.0 few.1.1 few.0 c.args.rules.now c.in_default.ensures, omega arith)
 
 pub returns : goal.returns
 returns g c =
+    let posts = g.L.Ladder.posts c.args.ladder.now in
+    let rules' = c.args.rules.now in
     let laws = g.met.L.Ladder.lawful c.args.ladder.now in
-    let lawful : LawfulList (g.L.Ladder.posts c.args.ladder.now) c.args.letter c.args.conditions c.args.rules.now =
-    (omega arith, subst (λ k. AllByRecursion (Sayable (grammar c.args.letter c.args.conditions k)) c.args.rules.now) c.count.ensures c.in_default.ensures) in
-    let e = c.text_len-needed.ensures in
-    let n = c.put_list.ensures.count in (
+    let few = c.in_ok-grammar.grammar.few in
+    let same : c.in_ok-grammar.grammar.grammar ≡ grammar c.args.letter c.args.conditions posts = search rules in
+    let n = ap (λ (g : Grammar). g.conditions) same in
+    let lawful : LawfulList posts c.args.letter c.args.conditions rules' = (omega arith, subst (λ g. AllByRecursion (Sayable g) rules') same c.in_default.ensures) in
+    let count = c.put_list.ensures.count in
+    let needed = c.text_len-needed.ensures in (
       lawful,
       (
-        n,
+        count,
         (
           omega arith,
           (
-            c.put_list.ensures.text,
-            read_back (g.L.Ladder.posts c.args.ladder.now) c.args.letter c.args.conditions c.args.rules.now laws.some laws.few lawful,
+            subst (λ g. c.put_list.new.text ≡ filled (written g.letter g.conditions rules') c.args.text.now) same c.put_list.ensures.text,
+            read_back posts c.args.letter c.args.conditions rules' laws.some laws.few lawful,
           ),
         ),
       ),

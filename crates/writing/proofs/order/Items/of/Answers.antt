@@ -1,0 +1,5 @@
+use Rattle.writing.proofs.Picks.{left-all}
+use Rattle.writing.proofs.order.Items.of.Goals as goal
+
+pub returns : goal.returns
+returns c = left-all c.args.rule.now c.floor_item.result c.floor_item.ensures
