@@ -1,11 +1,11 @@
 -- The bits of a number: one of them more, one less, and those below some place.
-use Rattle.std.proofs.Common.{◌≡◌, ℕ, ◌+◌, ◌-◌, ◌*◌, ◌/◌, ◌%◌, ◌^◌, ◌<◌, ◌≤◌, true, false, not, ◌&&◌, ◌||◌, eqb, sym, refl, ap, ◌∙◌, subst, ⊎_elim, add-mul, arith, pow_pos}
+use Rattle.std.proofs.Common.{◌≡◌, ℕ, ◌+◌, ◌-◌, ◌*◌, ◌/◌, ◌%◌, ◌^◌, ◌<◌, ◌≤◌, true, false, ◌&&◌, ◌||◌, eqb, sym, refl, ap, ◌∙◌, subst, ⊎_elim, add-mul, arith, pow_pos}
 use native.Mathlib.Nat.{div-eq_of_lt}
 use lib.Bits.{bit_and, bit_or, and_zero_r}
 use Rattle.std.proofs.lemmas.Nat.{and_mask, div-add-mod', div-mul-add, mod_below, mod-mul-add, or_disjoint, or_shr, pow_below, shr-shr, shr_split}
 use Rattle.std.proofs.lemmas.Bool.{cases_lt, eqb-true, false≢true, ne_eqb}
 use Rattle.ladders.specs.Sets.{holds}
-use Rattle.ladders.proofs.Sets.{and-holds, and_none, bits-same, not-holds-at, or-holds, power-holds, zero-holds}
+use Rattle.ladders.proofs.Sets.{and-holds, and_none, bits-same, ones-hold, or-holds, power-holds}
 
 -- a bit that is missing
 lacks : (x c : ℕ) → holds x c ≡ false → bit_and x (2 ^ c) ≡ 0
@@ -43,7 +43,7 @@ pub low-holds : (n x d : ℕ) → d < n → holds (x % 2 ^ n) d ≡ holds x d
 low-holds n x d lt =
     ap (λ y. holds y d) (sym (and_mask x n))
     ∙ and-holds x (2 ^ n - 1) d
-    ∙ ap (λ b. holds x d && b) (ap (λ y. holds y d) (let e : 2 ^ n - 1 ≡ (2 ^ n - 1) - 0 = omega arith in e) ∙ not-holds-at n 0 d (pow_pos n) lt ∙ ap not (zero-holds d))
+    ∙ ap (λ b. holds x d && b) (ones-hold n d lt)
     ∙ with-true (holds x d)
   where
     with-true : (b : _) → (b && true) ≡ b

@@ -6,7 +6,6 @@ use Rattle.std.proofs.lemmas.Bool.{cases_Bool, cases_eq, cases_lt, cond-false, c
 use Rattle.ladders.specs.Ladders.{Lawful}
 use Rattle.ladders.specs.Rows.{row_posts, rows_at_least}
 use Rattle.ladders.specs.Sets.{holds}
-use Rattle.ladders.specs.Copies.{held}
 use Rattle.ladders.proofs.Sets.{none-past}
 use Rattle.expressiveness.specs.Order.{Above as IsAbove}
 use Rattle.expressiveness.specs.Floors.{Over}
@@ -53,7 +52,7 @@ module _ (o : Order) where
   n = o.conditions
 
   laws : Lawful (row_posts o.ladder.rows) f
-  laws = held o.ladder.lawful
+  laws = o.ladder.lawful
 
   -- the order of the requests, whatever is led in it
   pub requests-are : {Led : ℕ → Type 0} → ((r : ℕ) → Dec (Led r)) → Ground o.total (OverIn o) Led

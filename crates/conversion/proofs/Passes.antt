@@ -5,7 +5,6 @@ use Rattle.std.proofs.lemmas.Nat.{div-mul-add, mod-mul-add}
 use Rattle.std.proofs.lemmas.List.{get_or_past}
 use Rattle.std.proofs.lemmas.Bool.{cases_eq, cases_lt, false≢true, or_cases, or_left, or_right}
 use Rattle.ladders.specs.Rows.{rows_at_least}
-use Rattle.ladders.specs.Copies.{held}
 use Rattle.expressiveness.proofs.Ground.{above-chain}
 use Rattle.conversion.specs.declared.beyond.Link.{Link}
 use Rattle.conversion.specs.declared.beyond.Link.TheVariants.{Condition, Posts}
@@ -133,7 +132,7 @@ full-more {o} {c} {side} lt passed full =
 -- posts
 module _ (o : Order) where
   below-eight : (p q : ℕ) → rows_at_least o.ladder.rows p q ≡ true → (p < 8) × (q < 8)
-  below-eight p q h = let within = (held o.ladder.lawful).within p q h in let few = (held o.ladder.lawful).few in (omega arith, omega arith)
+  below-eight p q h = let within = o.ladder.lawful.within p q h in let few = o.ladder.lawful.few in (omega arith, omega arith)
 
   -- the place of a pair of posts
   pair_is : (side : Side) (x y : ℕ) → pair_of o side x y ≡ upper_post o side x y * 8 + lower_post o side x y

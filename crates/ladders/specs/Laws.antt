@@ -1,7 +1,8 @@
 -- The laws of a relation on the posts below k, from one test over all of them; those of the rank and of the house ladder.
 use Rattle.std.proofs.Common.{rules, arith}
-use Rattle.std.specs.Prelude.{◌≡◌, ℕ, ◌<◌, ◌≤◌, Bool, true, false, ◌&&◌, ◌==◌, nat_le, nat_lt, refl}
-use Rattle.std.proofs.lemmas.Bool.{and_parts, and_from, eqb-true, leb-true, ltb-true, le-leb, lt-ltb, false≢true}
+use Rattle.std.specs.Prelude.{◌≡◌, ℕ, ◌<◌, ◌≤◌, Bool, true, false, ◌&&◌, ◌==◌, refl}
+use Rattle.std.proofs.lemmas.Bool.{and_parts, and_from, eqb-true, false≢true}
+use Rattle.std.proofs.lemmas.Bool.Decides.{nat_tests}
 use Rattle.ladders.specs.House.{house_at_least}
 use Rattle.ladders.specs.Ladders.{Lawful}
 use Rattle.ladders.specs.Rank.{rank_at_least}
@@ -49,23 +50,17 @@ module _ (k : ℕ) (r : ℕ → ℕ → Bool) (some : 1 ≤ k) (few : k ≤ 8) (
         lowest = λ p h. (and_parts (r p p) (r p 0) (at-post p h).0).1;
       }
 
-rank-parts : (k p q : ℕ) → rank_at_least k p q ≡ true → (p < k) × (q ≤ p)
-rank-parts k p q h = let both = and_parts (nat_lt p k) (nat_le q p) h in (ltb-true p k both.0, leb-true q p both.1)
-
-rank-from : (k p q : ℕ) → p < k → q ≤ p → rank_at_least k p q ≡ true
-rank-from k p q h le = and_from (nat_lt p k) (nat_le q p) (lt-ltb p k h) (le-leb q p le)
-
 -- the rank ladder, from the order of numbers
 pub rank-laws : (k : ℕ) → (1 ≤ k) × (k ≤ 8) → Lawful k (rank_at_least k)
 rank-laws k few =
     record {
       some = few.0;
       few = few.1;
-      within = λ p q h. let both = rank-parts k p q h in (both.0, omega (arith, both.0, both.1));
-      itself = λ p h. rank-from k p p h (omega arith);
-      apart = λ p q h i. omega (arith, (rank-parts k p q h).1, (rank-parts k q p i).1);
-      chain = λ p q s h i. let both = rank-parts k p q h in rank-from k p s both.0 (omega (arith, both.1, (rank-parts k q s i).1));
-      lowest = λ p h. rank-from k p 0 h (omega arith);
+      within = λ p q h. grind (arith, nat_tests);
+      itself = λ p h. grind (arith, nat_tests);
+      apart = λ p q h i. grind (arith, nat_tests);
+      chain = λ p q s h i. grind (arith, nat_tests);
+      lowest = λ p h. grind (arith, nat_tests);
     }
 
 house-inside : (p q : ℕ) → house_at_least p q ≡ true → (p < 8) × (q < 8)

@@ -5,4 +5,3 @@ pub mod House
 pub mod Rows
 pub mod Laws
 pub mod Everywhere
-pub mod Copies

@@ -1,12 +1,13 @@
 // The house ladder: the posts of one house, as a fixed table.
-ghost use Rattle.std.specs.Prelude.{◌≡◌, ◌<◌};
+ghost use Rattle.std.specs.Prelude.{◌≡◌};
 ghost use Rattle.ladders.specs.House.{house_at_least};
 ghost use Rattle.ladders.specs.Laws.{house-laws};
 
-use crate::ladder::Ladder;
+use crate::ladder::{Ladder, MOST_POSTS};
+use crate::table::stands;
 
 // Row p has bit q where post p is at least post q.
-const HOUSE: [u8; 8] = [1, 3, 5, 9, 29, 35, 93, 255];
+const HOUSE: [u8; MOST_POSTS] = [1, 3, 5, 9, 29, 35, 93, 255];
 
 #[derive(Clone, Copy)]
 pub struct House;
@@ -23,14 +24,6 @@ impl Ladder for House {
     }
 
     fn at_least(&self, p: usize, q: usize) -> bool {
-        p < 8 && q < 8 && has(p, q)
+        stands(&HOUSE, p, q)
     }
-}
-
-// Whether the table has post p at least post q.
-fn has(p: usize, q: usize) -> bool
-    requires { (p < 8) × (q < 8) }
-    ensures { result ≡ house_at_least p q }
-{
-    (HOUSE[p] >> q) & 1 == 1
 }

@@ -2,6 +2,9 @@
 ghost use Rattle.std.specs.Prelude.{◌≡◌, ℕ, Bool};
 ghost use Rattle.ladders.specs.Ladders.{Lawful};
 
+// The most posts that a ladder has.
+pub const MOST_POSTS: usize = 8;
+
 pub trait Ladder {
     // How many posts it has.
     ghost posts: { Self → ℕ };

@@ -2,16 +2,15 @@
 ghost use Rattle.std.specs.Prelude.{◌≡◌, ℕ};
 ghost use Rattle.ladders.specs.Ladders.{Lawful};
 ghost use Rattle.ladders.specs.Rows.{row_posts, rows_at_least};
-ghost use Rattle.ladders.specs.Copies.{held};
 
-use crate::ladder::Ladder;
-use crate::table::rows;
+use crate::ladder::{Ladder, MOST_POSTS};
+use crate::table::{rows, stands};
 
 // Row p is the set of the posts that post p is at least; the rows of numbers that are no posts are empty.
 #[derive(Clone, Copy)]
 pub struct LadderRows {
-    rows: [u8; 8],
-    ghost lawful: { ∥ Lawful (row_posts rows) (rows_at_least rows) ∥₁ },
+    rows: [u8; MOST_POSTS],
+    ghost lawful: { Lawful (row_posts rows) (rows_at_least rows) },
 }
 
 impl LadderRows {
@@ -29,19 +28,13 @@ impl Ladder for LadderRows {
 
     ghost at_least = { λ l. rows_at_least l.rows };
 
-    ghost lawful = { λ l. held l.lawful };
+    ghost lawful = { λ l. l.lawful };
 
     fn count(&self) -> usize {
-        let mut posts = 0;
-        for p in 0..8 {
-            if self.at_least(p, p) {
-                posts += 1;
-            }
-        }
-        posts
+        (0..MOST_POSTS).filter(|p| self.at_least(*p, *p)).count()
     }
 
     fn at_least(&self, p: usize, q: usize) -> bool {
-        p < 8 && q < 8 && (self.rows[p] >> q) & 1 == 1
+        stands(&self.rows, p, q)
     }
 }

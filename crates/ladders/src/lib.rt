@@ -9,7 +9,7 @@ mod rank;
 mod table;
 
 pub use house::House;
-pub use ladder::Ladder;
+pub use ladder::{Ladder, MOST_POSTS};
 pub use ladder_rows::LadderRows;
 pub use members::has;
 pub use rank::Rank;

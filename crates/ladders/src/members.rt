@@ -6,5 +6,5 @@ ghost use Rattle.ladders.specs.Sets.{holds};
 pub fn has(set: u16, member: u8) -> bool
     ensures { result ≡ holds set member }
 {
-    member < 16 && (set >> member) & 1 == 1
+    u32::from(member) < u16::BITS && (set >> member) & 1 == 1
 }

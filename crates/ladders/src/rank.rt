@@ -3,7 +3,7 @@ ghost use Rattle.std.specs.Prelude.{◌≡◌, ◌≤◌};
 ghost use Rattle.ladders.specs.Rank.{rank_posts, rank_at_least};
 ghost use Rattle.ladders.specs.Laws.{rank-laws};
 
-use crate::ladder::Ladder;
+use crate::ladder::{Ladder, MOST_POSTS};
 
 #[derive(Clone, Copy)]
 pub struct Rank {
@@ -17,7 +17,7 @@ impl Rank {
         ensures { result.posts ≡ rank_posts posts }
     {
         Rank {
-            posts: posts.clamp(1, 8),
+            posts: posts.clamp(1, MOST_POSTS),
         }
     }
 }

@@ -1,29 +1,30 @@
 // The rows of any ladder, filled once: row p is the set of the posts that post p is at least.
 ghost use Rattle.std.specs.Prelude.{◌≡◌, ℕ, ◌<◌};
 ghost use Rattle.ladders.specs.Sets.{holds};
-ghost use Rattle.ladders.specs.Rows.{IsRows};
+ghost use Rattle.ladders.specs.Rows.{IsRows, rows_at_least};
 
-use crate::ladder::Ladder;
+use crate::ladder::{Ladder, MOST_POSTS};
+use crate::members::has;
+use std::array;
 
 // The row of one post.
 fn row<L: Ladder>(ladder: &L, p: usize) -> u8
     ensures { (q : ℕ) → q < 8 → holds result q ≡ L.at_least ladder.now p q }
 {
-    let mut row = 0u8;
-    for q in 0..8 {
-        if ladder.at_least(p, q) {
-            row |= 1 << q;
-        }
-    }
-    row
+    (0..MOST_POSTS)
+        .filter(|q| ladder.at_least(p, *q))
+        .fold(0, |row, q| row | 1 << q)
 }
 
-pub fn rows<L: Ladder>(ladder: &L) -> [u8; 8]
+pub fn rows<L: Ladder>(ladder: &L) -> [u8; MOST_POSTS]
     ensures { IsRows (L.at_least ladder.now) result }
 {
-    let mut rows = [0u8; 8];
-    for p in 0..8 {
-        rows[p] = row(ladder, p);
-    }
-    rows
+    array::from_fn(|p| row(ladder, p))
+}
+
+// Whether post q stands in the row of post p; no number from 8 on stands in any row, or has one.
+pub(crate) fn stands(rows: &[u8; MOST_POSTS], p: usize, q: usize) -> bool
+    ensures { result ≡ rows_at_least rows.now p q }
+{
+    p < MOST_POSTS && q < MOST_POSTS && has(u16::from(rows[p]), q as u8)
 }

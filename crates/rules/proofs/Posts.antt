@@ -1,18 +1,10 @@
--- What the walk over the barred posts shows.
-use Rattle.std.proofs.Common.{◌≡◌, ℕ, ◌/◌, ◌%◌, ◌^◌, ◌<◌, ◌≤◌, Bool, true, false, sym, ◌∙◌, ⊎_elim, arith}
-use lib.Bits.{bit_and}
-use Rattle.std.proofs.lemmas.Nat.{and_mask}
-use Rattle.std.proofs.lemmas.Bool.{cases_Bool, cases_lt, eq-eqb, eqb-true, false≢true}
+-- What is shown by asking of every number that can be a post.
+use Rattle.std.proofs.Common.{◌≡◌, ℕ, zero, suc, ◌+◌, ◌<◌, ◌≤◌, Bool, true, false, not, ◌&&◌, Decides, refl, subst, ⊎_elim, arith}
+use Rattle.std.specs.List.{list_any, range_with_len}
+use Rattle.std.proofs.lemmas.Bool.{cases_Bool, cases_eq, cases_lt, not-true, not_from_false, or_parts}
 use Rattle.ladders.specs.Ladders.{Lawful}
 use Rattle.ladders.specs.Sets.{holds}
 use Rattle.rules.specs.Rules.{Clear}
-
--- the test of one bit
-pub bit-holds : (s p : ℕ) → bit_and (s / 2 ^ p) 1 ≡ 1 → holds s p ≡ true
-bit-holds s p e = eq-eqb (s / 2 ^ p % 2) 1 (sym (and_mask (s / 2 ^ p) 1) ∙ e)
-
-pub holds-bit : (s p : ℕ) → holds s p ≡ true → bit_and (s / 2 ^ p) 1 ≡ 1
-holds-bit s p e = and_mask (s / 2 ^ p) 1 ∙ eqb-true (s / 2 ^ p % 2) 1 e
 
 -- no number from 8 on is a post
 none-past : {posts : ℕ} {f : ℕ → ℕ → Bool} → Lawful posts f → (post p : ℕ) → 8 ≤ p → f post p ≡ false
@@ -23,6 +15,19 @@ none-past {posts} {f} laws post p h =
 pub clear-all : {posts : ℕ} {f : ℕ → ℕ → Bool} → Lawful posts f → (post barred i : ℕ) → 8 ≤ i → ((k : ℕ) → k < i → holds barred k ≡ true → f post k ≡ false) → Clear f post barred
 clear-all laws post barred i h inv p e = ⊎_elim (λ (lt : p < i). inv p lt e) (λ (ge : i ≤ p). none-past laws post p (omega arith)) (cases_lt p i)
 
--- a barred post that the post is at least
-pub not-clear : (f : ℕ → ℕ → Bool) (post barred p : ℕ) → holds barred p ≡ true → f post p ≡ true → Clear f post barred → ⊥
-not-clear f post barred p e t clear = false≢true (sym (clear p e) ∙ t)
+-- where none of n numbers passes, each of them fails
+fails-at : (t : ℕ → Bool) (a n k : ℕ) → list_any t (range_with_len a n) ≡ false → a ≤ k → k < a + n → t k ≡ false
+fails-at t a zero k none le lt = absurd (omega arith)
+fails-at t a (suc n) k none le lt =
+    let parts = or_parts (t a) (list_any t (range_with_len (a + 1) n)) none in
+    ⊎_elim (λ (e : a ≡ k). subst (λ j. t j ≡ false) e parts.0) (λ (ne : a ≡ k → ⊥). fails-at t (a + 1) n k parts.1 (omega arith) (omega arith)) (cases_eq a k)
+
+none-passes : (t : ℕ → Bool) (a n : ℕ) → ((k : ℕ) → t k ≡ false) → list_any t (range_with_len a n) ≡ false
+none-passes t a zero fails = refl
+none-passes t a (suc n) fails = rw (fails a) (none-passes t (a + 1) n fails)
+
+pub clear-tells : {posts : ℕ} {f : ℕ → ℕ → Bool} → Lawful posts f → (post barred : ℕ) → Decides (not (list_any (λ p. holds barred p && f post p) (range_with_len 0 8))) (Clear f post barred)
+clear-tells {posts} {f} laws post barred = (
+  λ e. clear-all laws post barred 8 (omega arith) (λ k lt has. let no = fails-at (λ p. holds barred p && f post p) 0 8 k (not-true _ e) (omega arith) (omega arith) in grind arith),
+  λ clear. not_from_false _ (none-passes (λ p. holds barred p && f post p) 0 8 (λ k. let no = clear k in let cases = cases_Bool (holds barred k) in grind arith)),
+)

@@ -39,10 +39,7 @@ impl Model {
     pub fn lead_effect(&self) -> Effect
         ensures { result ≡ lead self.now }
     {
-        match self.default_effect() {
-            Effect::Permit => Effect::Deny,
-            Effect::Deny => Effect::Permit,
-        }
+        !self.default_effect()
     }
 
     // Whether it is the default's effect that decides where rules of both effects apply.

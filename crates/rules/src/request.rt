@@ -1,8 +1,11 @@
 // A request: who asks, by post, and which conditions hold.
-ghost use Rattle.std.specs.Prelude.{◌≡◌, ◌+◌, ◌*◌, ◌^◌, ◌<◌, ◌≤◌, Decides};
-ghost use Rattle.rules.specs.Requests.{AtOrAbove, request_at, numbered_of, number_of};
+ghost use Rattle.std.specs.Prelude.{◌≡◌, ◌^◌, ◌&&◌, Decides, nat_le, nat_lt};
+ghost use Rattle.rules.specs.Requests.{AtOrAbove, Includes, numbered_of, number_of};
 
-use ladders::Ladder;
+use ladders::{Ladder, MOST_POSTS};
+
+// The most conditions that there are.
+pub const MOST_CONDITIONS: u8 = 9;
 
 // The conditions are lettered a to i; condition a is bit 0 of the set.
 #[derive(Clone, Copy, Debug, PartialEq, Eq)]
@@ -16,10 +19,10 @@ impl Request {
     pub fn numbered(n: u8, number: usize) -> Option<Request>
         ensures { result ≡ numbered_of n number }
     {
-        if n > 9 || number >= 8 << n {
-            return None;
-        }
-        Some(unpacked(n, number))
+        (n <= MOST_CONDITIONS && number < MOST_POSTS << n).then(|| Request {
+            post: (number >> n) as u8,
+            set: (number & ((1 << n) - 1)) as u16,
+        })
     }
 
     // The number of this request, with n conditions; none where n is above 9, or the set has a condition that is none of the n. Whether
@@ -27,37 +30,29 @@ impl Request {
     pub fn number(&self, n: u8) -> Option<usize>
         ensures { result ≡ number_of n self.now }
     {
-        if n > 9 || self.set >= 1 << n {
-            return None;
-        }
-        Some(packed(n, self.post, self.set))
+        let Request { post, set } = *self;
+        are_conditions(n, set).then(|| usize::from(post) << n | usize::from(set))
     }
 
     // Whether this request is at or above another.
     pub fn at_or_above<L: Ladder>(&self, ladder: &L, other: Request) -> bool
         ensures { Decides result (AtOrAbove (L.at_least ladder.now) self.now other) }
     {
-        self.set & other.set == other.set
-            && ladder.at_least(self.post as usize, other.post as usize)
+        includes(self.set, other.set)
+            && ladder.at_least(usize::from(self.post), usize::from(other.post))
     }
 }
 
-// The request that a number stands for, where there is one.
-fn unpacked(n: u8, number: usize) -> Request
-    requires { (n ≤ 9) × (number < 8 * 2 ^ n) }
-    ensures { result ≡ request_at n number }
+// Whether a set has every condition that another has.
+pub(crate) fn includes(set: u16, other: u16) -> bool
+    ensures { Decides result (Includes set other) }
 {
-    let mask = (1 << n) - 1;
-    Request {
-        post: (number >> n) as u8,
-        set: (number & mask) as u16,
-    }
+    set & other == other
 }
 
-// The number of a post and a set of some of the n conditions.
-fn packed(n: u8, post: u8, set: u16) -> usize
-    requires { (n ≤ 9) × (set < 2 ^ n) }
-    ensures { result ≡ post * 2 ^ n + set }
+// Whether there may be n conditions, and a set has none but those.
+pub(crate) fn are_conditions(n: u8, set: u16) -> bool
+    ensures { result ≡ (nat_le n 9 && nat_lt set (2 ^ n)) }
 {
-    (post as usize) << n | set as usize
+    n <= MOST_CONDITIONS && set < 1 << n
 }

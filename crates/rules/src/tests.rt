@@ -115,6 +115,7 @@ fn rules_apply(rt: HostRuntime) {
 #[test]
 fn floors(rt: HostRuntime) {
     let floor = Some(Request { post: 4, set: 7 });
+    assert!(rt; floor_rule(7, 4).bars_nothing());
     assert_eq!(rt; floor_rule(7, 4).floor_of(&House, 3), floor);
     assert_eq!(rt; floor_rule(8, 4).floor_of(&House, 3), None);
     assert_eq!(rt; floor_rule(7, 4).floor_of(&House, 10), None);
@@ -148,5 +149,6 @@ fn models(rt: HostRuntime) {
     for (model, default, overriding) in table {
         assert_eq!(rt; model.default_effect(), default);
         assert_eq!(rt; model.overriding(), overriding);
+        assert_eq!(rt; model.lead_effect(), !default);
     }
 }

@@ -1,21 +1,17 @@
-use Rattle.std.proofs.Common.{true, false, arith}
-use Rattle.ladders.specs.Rows.{rows_at_least}
-use Rattle.ladders.specs.Copies.{count_none, count-more}
+use Rattle.std.proofs.Common.{rules, tests, ◌≡◌, ◌∙◌, ℕ, Bool, length, filter, refl}
+use Rattle.std.specs.List.{range_with_len}
+use Rattle.std.proofs.lemmas.Iterator.{YieldsList-from_range}
+use Rattle.std.proofs.lemmas.Iterator.Consumers.{YieldsList-from_filter, count_from_yields_List}
+use Rattle.std.proofs.lemmas.List.Sums.{length-filter}
+use Rattle.ladders.specs.Rows.{rows_at_least, count_below}
 use Rattle.ladders.proofs.ladder_rows.LadderRowsLadder.count.Goals as goal
-use Rattle.ladders.proofs.ladder_rows.LadderRowsLadder.count.Goals.{then-at_least, else-at_least}
 
-pub loop-p-init : goal.loop-p-init
-loop-p-init c = (count_none (λ k. rows_at_least c.args.self.now.rows k k), omega arith)
+counted : (f : ℕ → Bool) → length (filter f (range_with_len 0 8)) ≡ count_below 8 f
+unfolding count_below
+counted f = length-filter f (range_with_len 0 8)
 
-pub loop-p-preserved : goal.loop-p-preserved
-loop-p-preserved c =
-    elim c.if-at_least.branch [
-      | then-at_least w ↦ (
-        omega (arith, w.posts-is, c.loop-p.invariant.0, count-more (λ k. rows_at_least c.args.self.now.rows k k) c.loop-p.p true w.if-at_least.ensures),
-        omega (arith, w.posts-is, c.loop-p.invariant.1),
-      )
-      | else-at_least w ↦ (
-        omega (arith, w.posts-is, c.loop-p.invariant.0, count-more (λ k. rows_at_least c.args.self.now.rows k k) c.loop-p.p false w.if-at_least.ensures),
-        omega (arith, w.posts-is, c.loop-p.invariant.1),
-      )
-    ]
+pub returns : goal.returns
+returns c =
+    count_from_yields_List _ c.count.result c.count.ensures.ran
+    (YieldsList-from_filter _ (λ p. rows_at_least c.args.self.now.rows p p) (YieldsList-from_range 0 8 8 c.filter.ensures.source refl) c.filter.ensures.closure (λ x b q k. search (rules, tests)))
+    ∙ counted (λ p. rows_at_least c.args.self.now.rows p p)

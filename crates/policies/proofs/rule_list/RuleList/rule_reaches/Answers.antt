@@ -1,5 +1,4 @@
 use Rattle.std.proofs.Common.{◌≡◌, true, rules}
-use Rattle.ladders.specs.Copies.{held}
 use Rattle.policies.specs.ListMeaning.{counts}
 use Rattle.policies.proofs.Tells.{rule-applies}
 use Rattle.policies.proofs.rule_list.RuleList.rule_reaches.Goals as goal
@@ -11,6 +10,6 @@ returns-then-counts c =
       | then-eq w ↦
           let same : c.args.rule.effect ≡ c.args.effect = search rules in
           let count : true ≡ counts c.args.self.now.letter c.args.rule = search rules in
-          rule-applies (held c.args.self.now.ladder.lawful) c.args.self.now.letter c.args.effect c.args.request c.args.rule c.applies.result same count c.applies.ensures
+          rule-applies c.args.self.now.ladder.lawful c.args.self.now.letter c.args.effect c.args.request c.args.rule c.applies.result same count c.applies.ensures
       | else-eq w ↦ search rules
     ]
