@@ -1,7 +1,6 @@
 -- The tests of a list tell what the relations say.
-use Rattle.std.proofs.Common.{◌≡◌, ℕ, ◌+◌, ◌<◌, Bool, true, false, not, ◌&&◌, ◌||◌, eqb, ◌⊎◌, List, [], ◌∷◌, length, get_or, drop, Decides, sym, refl, ap, ◌∙◌, subst, inl, inr, ⊎_elim, arith}
+use Rattle.std.proofs.Common.{◌≡◌, ℕ, ◌<◌, Bool, true, false, not, ◌&&◌, eqb, ◌⊎◌, List, [], ◌∷◌, Decides, sym, refl, ap, ◌∙◌, subst, inl, inr, ⊎_elim, arith}
 use mathlib.Core.List.Memᴰ
-use Rattle.std.proofs.lemmas.List.{at_drop_more}
 use Rattle.std.proofs.lemmas.Bool.{and_left, and_right, not-true, not_from_false, cases_Bool, false≢true}
 use Rattle.std.proofs.lemmas.Bool.Decides.{Decides-and, Decides-below_and, Decides-eqb, Decides-like, Decides-or, same_from_decides}
 use Rattle.ladders.specs.Ladders.{Lawful}
@@ -75,8 +74,3 @@ module _ {posts : ℕ} {f : ℕ → ℕ → Bool} (laws : Lawful posts f) where
       same_from_decides r (applies f t q) h (applies-tells t q)
       ∙ ap (λ b. b && applies f t q) count
       ∙ ap (λ b. b && (counts letter t && applies f t q)) (sym ((same-tells t.effect e).1 same))
-
--- the walk over the rules: what the rule at i and those after it tell
-pub onward : (f : ℕ → ℕ → Bool) (letter : Letter) (e : Effect) (q : Request) (ts : List Rule) (i : ℕ) (d : Rule) (b : Bool) → i < length ts → b ≡ rule_reaches f letter e q (get_or ts i d)
-    → reaches f letter e q (drop i ts) ≡ reaches f letter e q ts → (b || reaches f letter e q (drop (i + 1) ts)) ≡ reaches f letter e q ts
-onward f letter e q ts i d b lt h left = ap (λ t. t || reaches f letter e q (drop (i + 1) ts)) h ∙ sym (at_drop_more (reaches f letter e q) ts i d lt) ∙ left

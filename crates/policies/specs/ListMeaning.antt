@@ -1,5 +1,6 @@
 -- The computing form of what a list decides: each test tells whether the relation that its comment names holds.
-use Rattle.std.specs.Prelude.{ℕ, zero, suc, Bool, true, false, cond, not, ◌&&◌, ◌||◌, List, [], ◌∷◌, ◌==◌, bit_and}
+use Rattle.std.specs.Prelude.{ℕ, zero, suc, Bool, true, false, cond, not, ◌&&◌, List, ◌==◌, bit_and}
+use Rattle.std.specs.List.{list_any}
 use Rattle.ladders.specs.Rows.{row_posts, rows_at_least}
 use Rattle.ladders.specs.Sets.{holds}
 use Rattle.rules.specs.declared.letter.Letter.{Letter}
@@ -49,8 +50,7 @@ rule_reaches f letter e q t = same_effect t.effect e && (counts letter t && appl
 
 -- Tells `Applied`.
 abbrev pub reaches : (ℕ → ℕ → Bool) → Letter → Effect → Request → List Rule → Bool
-reaches f letter e q [] = false
-reaches f letter e q (t ∷ ts) = rule_reaches f letter e q t || reaches f letter e q ts
+reaches f letter e q ts = list_any (rule_reaches f letter e q) ts
 
 -- What a model decides, where permit rules apply or not, and deny rules.
 abbrev pub verdict : ModelOf → Bool → Bool → Effect

@@ -1,5 +1,5 @@
 -- What a list decides of a request, by the rules of it that apply.
-use Rattle.std.specs.Prelude.{◌≡◌, ℕ, ◌*◌, ◌^◌, ◌<◌, Bool, cond, List, nat_le}
+use Rattle.std.specs.Prelude.{◌≡◌, ℕ, ◌<◌, Bool, cond, List, nat_le}
 use mathlib.Core.List.{Memᴰ}
 use Rattle.rules.specs.declared.letter.Letter.{Letter}
 use Rattle.rules.specs.declared.letter.Letter.TheVariants.{Guarded, Model}
@@ -8,7 +8,7 @@ use Rattle.rules.specs.declared.rule.Effect.{Effect}
 use Rattle.rules.specs.declared.rule.Effect.TheVariants.{Permit, Deny}
 use Rattle.rules.specs.declared.rule.Rule.{Rule}
 use Rattle.rules.specs.Models.{Verdict}
-use Rattle.rules.specs.Requests.{request_at}
+use Rattle.rules.specs.Requests.{request_at, request_total}
 use Rattle.rules.specs.Rules.{Applies}
 use Rattle.policies.specs.Policies.{Meaning}
 
@@ -38,7 +38,7 @@ OneDecision f letter ts = (q : Request) → (e : Effect) × (ListDecides f lette
 
 -- How many requests there are on a ladder of so many posts and with n conditions: none with more than 9.
 abbrev pub request_count : ℕ → ℕ → ℕ
-request_count posts n = cond (nat_le n 9) (posts * 2 ^ n) 0
+request_count posts n = cond (nat_le n 9) (request_total posts n) 0
 
 -- What the policy of a list means, on a ladder of so many posts ordered by f and with n conditions: it has the requests of that ladder,
 -- and decides of each what the list decides, which is one effect.

@@ -2,10 +2,11 @@
 ghost use Rattle.policies.specs.Policies.{chart_meaning};
 
 use crate::policy::Policy;
-use rules::Effect;
+use ladders::MOST_POSTS;
+use rules::{Effect, MOST_CONDITIONS};
 
-// The most requests that a chart has.
-const MOST: usize = 4096;
+// The most requests that a chart has: those of eight posts and nine conditions, 4096.
+const MOST: usize = MOST_POSTS << MOST_CONDITIONS;
 
 // Byte 0 denies its request, and any other permits it; bytes after the first 4096 do not count.
 #[derive(Clone, Copy)]
@@ -21,13 +22,11 @@ impl<'a> Policy for Chart<'a> {
     }
 
     fn decide(&self, request: usize) -> Option<Effect> {
-        if request >= self.requests() {
-            return None;
-        }
-        if self.bytes[request] == 0 {
-            Some(Effect::Deny)
+        let byte = self.bytes[..self.requests()].get(request)?;
+        Some(if *byte == 0 {
+            Effect::Deny
         } else {
-            Some(Effect::Permit)
-        }
+            Effect::Permit
+        })
     }
 }

@@ -18,9 +18,6 @@ impl<P: Policy> Policy for Contrary<P> {
     }
 
     fn decide(&self, request: usize) -> Option<Effect> {
-        match self.beneath.decide(request)? {
-            Effect::Permit => Some(Effect::Deny),
-            Effect::Deny => Some(Effect::Permit),
-        }
+        self.beneath.decide(request).map(|effect| !effect)
     }
 }

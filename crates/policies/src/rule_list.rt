@@ -6,7 +6,7 @@ ghost use Rattle.policies.specs.ListMeaning.{counts, rule_reaches, reaches, list
 
 use crate::policy::Policy;
 use ladders::{Ladder, LadderRows};
-use rules::{Effect, Letter, Request, Rule};
+use rules::{Effect, Letter, MOST_CONDITIONS, Request, Rule};
 
 // Every rule that it is given counts as its letter says. The ladder is kept as a copy of its rows.
 #[derive(Clone, Copy)]
@@ -43,7 +43,7 @@ impl<'a> RuleList<'a> {
     {
         match self.letter {
             Letter::Guarded => rule.effect == Effect::Permit,
-            Letter::Model(_) => rule.barred == 0 && rule.barred_posts == 0,
+            Letter::Model(_) => rule.bars_nothing(),
         }
     }
 
@@ -58,12 +58,9 @@ impl<'a> RuleList<'a> {
     fn reached(&self, effect: Effect, request: Request) -> bool
         ensures { result ≡ reaches (rows_at_least self.now.ladder.rows) self.now.letter effect request self.now.rules.now }
     {
-        for rule in self.rules {
-            if self.rule_reaches(*rule, effect, request) {
-                return true;
-            }
-        }
-        false
+        self.rules
+            .iter()
+            .any(|rule| self.rule_reaches(*rule, effect, request))
     }
 
     // What is decided of a request.
@@ -87,7 +84,7 @@ impl<'a> Policy for RuleList<'a> {
     ghost meaning = { λ l. meaning_of l };
 
     fn requests(&self) -> usize {
-        if self.conditions > 9 {
+        if self.conditions > MOST_CONDITIONS {
             return 0;
         }
         self.ladder.count() << self.conditions

@@ -13,9 +13,13 @@ request_at n number = record { post = number / 2 ^ n; set = number % 2 ^ n }
 abbrev pub numbered_of : ℕ → ℕ → Option Request
 numbered_of n number = cond (nat_le n 9 && nat_lt number (8 * 2 ^ n)) (Some (request_at n number)) None
 
+-- Tells whether there may be n conditions, and a set has none but those.
+abbrev pub are_conditions : ℕ → ℕ → Bool
+are_conditions n set = nat_le n 9 && nat_lt set (2 ^ n)
+
 -- The number of a request: none with more than 9 conditions, or where its set has a condition that is none of the n.
 abbrev pub number_of : ℕ → Request → Option ℕ
-number_of n q = cond (nat_le n 9 && nat_lt q.set (2 ^ n)) (Some (q.post * 2 ^ n + q.set)) None
+number_of n q = cond (are_conditions n q.set) (Some (q.post * 2 ^ n + q.set)) None
 
 -- How many requests there are on a ladder of so many posts and with n conditions.
 abbrev pub request_total : ℕ → ℕ → ℕ

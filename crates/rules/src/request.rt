@@ -1,6 +1,6 @@
 // A request: who asks, by post, and which conditions hold.
-ghost use Rattle.std.specs.Prelude.{◌≡◌, ◌^◌, ◌&&◌, Decides, nat_le, nat_lt};
-ghost use Rattle.rules.specs.Requests.{AtOrAbove, Includes, numbered_of, number_of};
+ghost use Rattle.std.specs.Prelude.{◌≡◌, Decides};
+ghost use Rattle.rules.specs.Requests.{AtOrAbove, Includes, are_conditions, numbered_of, number_of};
 
 use ladders::{Ladder, MOST_POSTS};
 
@@ -52,7 +52,7 @@ pub(crate) fn includes(set: u16, other: u16) -> bool
 
 // Whether there may be n conditions, and a set has none but those.
 pub(crate) fn are_conditions(n: u8, set: u16) -> bool
-    ensures { result ≡ (nat_le n 9 && nat_lt set (2 ^ n)) }
+    ensures { result ≡ are_conditions n set }
 {
     n <= MOST_CONDITIONS && set < 1 << n
 }
