@@ -14,10 +14,10 @@ use Rattle.rulefile.specs.Steps.{at, ItemTaken, taken, item_read, with_item, Ite
 taken-ok : (d d' : Draft) (v : Result (Item × List ℕ) LineFault) (rest : List ℕ) → Ok (d', rest) ≡ taken d v → (i : Item) × ((v ≡ Ok (i, rest)) × (d' ≡ with_item d i))
 taken-ok d d' (Ok (i, rest')) rest e =
     let p : ◌≡◌ {A = Draft × List ℕ} (d', rest) (with_item d i, rest') = cc in (i, (ap (λ v. Ok (i, v.1)) (sym p), ap (λ v. v.0) p))
-taken-ok d d' (Err f) rest e = let z : ◌≡◌ {A = ℕ} 0 1 = cc in absurd (omega arith)
+taken-ok d d' (Err f) rest e = absurd (cc)
 
 pub taken-err : (d : Draft) (v : Result (Item × List ℕ) LineFault) (f : LineFault) → Err f ≡ taken d v → v ≡ Err f
-taken-err d (Ok v) f e = let z : ◌≡◌ {A = ℕ} 0 1 = cc in absurd (omega arith)
+taken-err d (Ok v) f e = absurd (cc)
 taken-err d (Err h) f e = let same : h ≡ f = cc in ap Err same
 
 -- an item takes at least one byte
