@@ -130,7 +130,7 @@ past-line file x read at at' p f on in' =
       ap (λ t. slice_get (p.before ++ t) read) n.1
           ∙ ap (λ k. slice_get (p.before ++ (span (read + 1) at x ∷ n.0)) k) (sym p.count)
           ∙ slice_get_read (p.before ++ (span (read + 1) at x ∷ n.0)) (length (p.before ++ (span (read + 1) at x ∷ n.0))) (length p.before) (span (read + 1) at x) refl
-              (simp length-append (omega arith)) (sym (get_or-append_seam p.before (span (read + 1) at x) n.0 (span (read + 1) at x))),
+          (simp length-append (omega arith)) (sym (get_or-append_seam p.before (span (read + 1) at x) n.0 (span (read + 1) at x))),
     )
 
 -- At the end of the file all lines are read.

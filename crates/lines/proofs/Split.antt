@@ -24,8 +24,8 @@ same_ended (a ∷ x) (b ∷ y) xs ys u v e = let r = same_ended x y xs ys u.1 v.
 
 -- Bytes of which none ends a line do not hold a byte 10.
 unbroken-apart : (x y ys : List ℕ) → Unbroken x → x ≡ y ++ (10 ∷ ys) → ⊥
-unbroken-apart [] [] ys u e = let z : ◌≡◌ {A = ℕ} 0 1 = cc in omega arith
-unbroken-apart [] (b ∷ y) ys u e = let z : ◌≡◌ {A = ℕ} 0 1 = cc in omega arith
+unbroken-apart [] [] ys u e = cc
+unbroken-apart [] (b ∷ y) ys u e = cc
 unbroken-apart (a ∷ x) [] ys u e = u.0 (cc)
 unbroken-apart (a ∷ x) (b ∷ y) ys u e = unbroken-apart x y ys u.1 (cc)
 
@@ -106,19 +106,19 @@ lines-some k s xs = some-within (length xs) k s xs (omega arith)
 
 -- Where a line is found, there are bytes.
 lines-bytes : (k s : ℕ) (xs : List ℕ) (ls : List Span) (m : ℕ) (sp : Span) → Lines k s xs ls → slice_get ls m ≡ Some sp → 0 < length xs
-lines-bytes k s xs ls m sp none e = let z : ◌≡◌ {A = ℕ} 0 1 = cc in absurd (omega arith)
+lines-bytes k s xs ls m sp none e = absurd (cc)
 lines-bytes k s xs ns m sp (more f l) e = let h = (first-length f).1 in omega arith
 
 -- The lines are numbered one after another.
 pub lines-number : (k s : ℕ) (xs : List ℕ) (ls : List Span) (m : ℕ) (sp : Span) → Lines k s xs ls → slice_get ls m ≡ Some sp → sp.number ≡ k + m
-lines-number k s xs ls m sp none e = let z : ◌≡◌ {A = ℕ} 0 1 = cc in absurd (omega arith)
+lines-number k s xs ls m sp none e = absurd (cc)
 lines-number k s xs ns zero sp (more {x = x} f l) e = let q : span k s x ≡ sp = cc in let n : k ≡ sp.number = ap (λ t. t.number) q in omega arith
 lines-number k s xs ns (suc m) sp (more {ys = ys} {ls = ls} f l) e =
     let n = lines-number (suc k) (s + (length xs - length ys)) ys ls m sp l e in omega arith
 
 -- A line lies within the file.
 pub lines-within : (k s : ℕ) (xs : List ℕ) (ls : List Span) (m : ℕ) (sp : Span) → Lines k s xs ls → slice_get ls m ≡ Some sp → (s ≤ sp.start) × (sp.start + length sp.bytes ≤ s + length xs)
-lines-within k s xs ls m sp none e = let z : ◌≡◌ {A = ℕ} 0 1 = cc in absurd (omega arith)
+lines-within k s xs ls m sp none e = absurd (cc)
 lines-within k s xs ns zero sp (more {x = x} f l) e =
     let q : span k s x ≡ sp = cc in
     let a : s ≡ sp.start = ap (λ t. t.start) q in
@@ -134,7 +134,7 @@ lines-within k s xs ns (suc m) sp (more {ys = ys} {ls = ls} f l) e =
 
 -- A line lies with its end wholly before each later line.
 pub lines-apart : (k s : ℕ) (xs : List ℕ) (ls : List Span) (m m' : ℕ) (sp sp' : Span) → Lines k s xs ls → m < m' → slice_get ls m ≡ Some sp → slice_get ls m' ≡ Some sp' → sp.start + length sp.bytes < sp'.start
-lines-apart k s xs ls m m' sp sp' none lt e e' = let z : ◌≡◌ {A = ℕ} 0 1 = cc in absurd (omega arith)
+lines-apart k s xs ls m m' sp sp' none lt e e' = absurd (cc)
 lines-apart k s xs ns m zero sp sp' (more f l) lt e e' = absurd (omega arith)
 lines-apart k s xs ns zero (suc m') sp sp' (more {x = x} {ys = ys} {ls = ls} f l) lt e e' =
     let q : span k s x ≡ sp = cc in
@@ -164,7 +164,7 @@ first-parts {xs} {x} {ys} f =
 
 -- A line's bytes are those that the file has from the line's start on.
 pub lines-part : (k s : ℕ) (xs : List ℕ) (ls : List Span) (m : ℕ) (sp : Span) → Lines k s xs ls → slice_get ls m ≡ Some sp → sp.bytes ≡ take (length sp.bytes) (drop (sp.start - s) xs)
-lines-part k s xs ls m sp none e = let z : ◌≡◌ {A = ℕ} 0 1 = cc in absurd (omega arith)
+lines-part k s xs ls m sp none e = absurd (cc)
 lines-part k s xs ns zero sp (more {x = x} f l) e =
     let q : span k s x ≡ sp = cc in
     let P : Span → Type 0 = λ t. t.bytes ≡ take (length t.bytes) (drop (t.start - s) xs) in

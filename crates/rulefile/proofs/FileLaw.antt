@@ -47,7 +47,7 @@ say-count {g} (a-rule {l} {ls} {t} h s) = ap (λ b. cond b (rule_lines ls) (suc 
 
 -- A line that is not silent, among lines that say rules, is by the grammar.
 say-line : {g : Grammar} {ls : List Span} {ts : List Rule} (m : ℕ) (line : Span) → Say g ls ts → slice_get ls m ≡ Some line → silent line.bytes ≡ false → (t : Rule) × Spells g line.bytes t
-say-line m line nothing e h = let z : ◌≡◌ {A = ℕ} 0 1 = cc in absurd (omega arith)
+say-line m line nothing e h = absurd (cc)
 say-line zero line (silence {l} k s) e h = let same : l ≡ line = cc in absurd (both_ways (silent line.bytes) h (ap (λ x. silent x.bytes) (sym same) ∙ k))
 say-line {g} zero line (a-rule {l} {ls} {t} k s) e h = let same : l ≡ line = cc in (t, subst (λ x. Spells g x.bytes t) same k)
 say-line (suc m) line (silence k s) e h = say-line m line s e h
@@ -55,7 +55,7 @@ say-line (suc m) line (a-rule k s) e h = say-line m line s e h
 
 -- A rule line is one more.
 rule-lines-less : (ls : List Span) (m : ℕ) (line : Span) → slice_get ls m ≡ Some line → silent line.bytes ≡ false → rule_lines (take m ls) < rule_lines ls
-rule-lines-less [] m line e h = let z : ◌≡◌ {A = ℕ} 0 1 = cc in absurd (omega arith)
+rule-lines-less [] m line e h = absurd (cc)
 rule-lines-less (l ∷ ls) zero line e h =
     let same : l ≡ line = cc in
     let loud : silent l.bytes ≡ false = ap (λ x. silent x.bytes) same ∙ h in
@@ -338,7 +338,7 @@ module _ {file : Bor (List ℕ)} (s t : Reader) (same : s.file ≡ file) (unread
       → told ≡ option_and_then (λ l. head_of l.bytes.now) first → told ≡ Some (letter, n) → k ≡ posts
       → ((ls : List Span) → Lines (t.read + 1) t.at (drop t.at t.file.now) ls → RestSays (grammar letter n k) ls slots r slots')
       → Answers posts file.now slots (listing letter n r) slots'
-  answered posts k slots slots' letter n None told r h e m count says = let z : ◌≡◌ {A = ℕ} 0 1 = cc in absurd (omega arith)
+  answered posts k slots slots' letter n None told r h e m count says = absurd (cc)
   answered posts k slots slots' letter n (Some l) told r h e m count says =
       concluded r
       (subst (λ m. RestSays (grammar letter n m) others slots r slots') count

@@ -25,7 +25,7 @@ letter-byte b l e =
     cond_both (eqb b 66) (Some (Model B)) _ (λ o. o ≡ Some l → b ≡ letter_byte l) (λ t f. eqb-true b 66 t ∙ ap byte f)
     (λ _.
     cond_both (eqb b 67) (Some (Model C)) _ (λ o. o ≡ Some l → b ≡ letter_byte l) (λ t f. eqb-true b 67 t ∙ ap byte f)
-    (λ _. cond_both (eqb b 68) (Some (Model D)) None (λ o. o ≡ Some l → b ≡ letter_byte l) (λ t f. eqb-true b 68 t ∙ ap byte f) (λ _ f. let z : ◌≡◌ {A = ℕ} 0 1 = cc in absurd (omega arith))))))
+    (λ _. cond_both (eqb b 68) (Some (Model D)) None (λ o. o ≡ Some l → b ≡ letter_byte l) (λ t f. eqb-true b 68 t ∙ ap byte f) (λ _ f. absurd (cc))))))
     e
   where
     byte : Option Letter → ℕ
@@ -45,21 +45,21 @@ HeadSays x (Some v) = Head x v.0 v.1
 
 both_say : (a d : ℕ) (o : Option Letter) (q : Option ℕ) → letter_of a ≡ o → digit_of d ≡ q → HeadSays (a ∷ (32 ∷ (d ∷ []))) (both o q)
 both_say a d None q e f =
-    λ l n (h, x). let t = letter-told l in let b : letter_byte l ≡ a = cc in let u = ap letter_of b in let z : ◌≡◌ {A = ℕ} 0 1 = cc in omega arith
+    λ l n (h, x). let t = letter-told l in let b : letter_byte l ≡ a = cc in let u = ap letter_of b in cc
 both_say a d (Some k) None e f =
-    λ l n (h, x). let t = digit-told n h in let b : 48 + n ≡ d = cc in let u = ap digit_of b in let z : ◌≡◌ {A = ℕ} 0 1 = cc in omega arith
+    λ l n (h, x). let t = digit-told n h in let b : 48 + n ≡ d = cc in let u = ap digit_of b in cc
 both_say a d (Some k) (Some m) e f =
     let s = digit-byte d m f in (s.0, ap₂ (λ b c. b ∷ (32 ∷ (c ∷ []))) (letter-byte a k e) s.1)
 
 pub head-says : (x : List ℕ) → HeadSays x (head_of x)
-head-says [] = λ l n (h, x). let z : ◌≡◌ {A = ℕ} 0 1 = cc in omega arith
-head-says (a ∷ []) = λ l n (h, x). let z : ◌≡◌ {A = ℕ} 0 1 = cc in omega arith
-head-says (a ∷ (s ∷ [])) = λ l n (h, x). let z : ◌≡◌ {A = ℕ} 0 1 = cc in omega arith
+head-says [] = λ l n (h, x). cc
+head-says (a ∷ []) = λ l n (h, x). cc
+head-says (a ∷ (s ∷ [])) = λ l n (h, x). cc
 head-says (a ∷ (s ∷ (d ∷ []))) =
     cond_both (eqb s 32) (both (letter_of a) (digit_of d)) None (HeadSays (a ∷ (s ∷ (d ∷ []))))
     (λ t. subst (λ b. HeadSays (a ∷ (b ∷ (d ∷ []))) (both (letter_of a) (digit_of d))) (sym (eqb-true s 32 t)) (both_say a d (letter_of a) (digit_of d) refl refl))
     (λ t l n h. let e = h.1 in eqb-false s 32 t (cc))
-head-says (a ∷ (s ∷ (d ∷ (e ∷ rest)))) = λ l n (h, x). let z : ◌≡◌ {A = ℕ} 0 1 = cc in omega arith
+head-says (a ∷ (s ∷ (d ∷ (e ∷ rest)))) = λ l n (h, x). cc
 
 pub head-one : (x : List ℕ) (l l' : Letter) (n n' : ℕ) → Head x l n → Head x l' n' → (l ≡ l') × (n ≡ n')
 head-one x l l' n n' (h, e) (h', e') =

@@ -25,7 +25,7 @@ guarded-true (Model m) h = absurd (both_ways false refl h)
 
 pub guarded-false : (l : Letter) → is_guarded l ≡ false → l ≡ Guarded → ⊥
 guarded-false Guarded h e = both_ways true h refl
-guarded-false (Model m) h e = let z : ◌≡◌ {A = ℕ} 0 1 = cc in omega arith
+guarded-false (Model m) h e = cc
 
 within-true : (g : Grammar) (x : Name) → within g x ≡ true → Within g x
 within-true g (Condition c) h = ltb-true c g.conditions h
@@ -59,8 +59,8 @@ told-bang g is rest l =
 no_name : (part : Begun) (b : ℕ) (rest : List ℕ) → Asks part b → name_of b ≡ None → Due part (b ∷ rest) → ⊥
 no_name between b rest a n d = a
 no_name spaced b rest a n (inl e) = a e
-no_name spaced b rest a n (inr (x, e)) = let z : ◌≡◌ {A = ℕ} 0 1 = cc in omega arith
-no_name banged b rest a n (x, e) = let z : ◌≡◌ {A = ℕ} 0 1 = cc in omega arith
+no_name spaced b rest a n (inr (x, e)) = cc
+no_name banged b rest a n (x, e) = cc
 
 -- The name x stands where a name is due.
 module _ (g : Grammar) (is : List Item) (part : Begun) (rest : List ℕ) (x : Name) (here : NamedHere part rest x) where

@@ -1,5 +1,5 @@
 -- A reader goes on along its line by one item.
-use Rattle.std.proofs.Common.{◌≡◌, ℕ, ◌+◌, ◌-◌, ◌<◌, List, [], ◌∷◌, length, Ok, Err, Result, sym, ap, ◌∙◌, subst, ap₂, arith}
+use Rattle.std.proofs.Common.{◌≡◌, ℕ, ◌+◌, ◌-◌, ◌<◌, List, [], ◌∷◌, length, Ok, Err, Result, sym, ap, subst, ap₂, arith}
 use Rattle.rules.specs.declared.rule.Rule.{Rule}
 use Rattle.lines.specs.declared.reader.Place.{Place}
 use Rattle.rulefile.specs.declared.grammar.Grammar.{Grammar}
@@ -8,20 +8,17 @@ use Rattle.rulefile.specs.declared.draft.Draft.{Draft}
 use Rattle.rulefile.specs.declared.items.ItemReader.{ItemReader}
 use Rattle.rulefile.specs.declared.faults.LineFault.{LineFault}
 use Rattle.rulefile.specs.Faults.{place}
-use Rattle.rulefile.specs.Steps.{at, Kept, taken, item_read, with_item, ItemsRead, more}
+use Rattle.rulefile.specs.Steps.{at, ItemTaken, taken, item_read, with_item, ItemsRead, more}
 
 -- the item that was read, and the draft with it
 taken-ok : (d d' : Draft) (v : Result (Item × List ℕ) LineFault) (rest : List ℕ) → Ok (d', rest) ≡ taken d v → (i : Item) × ((v ≡ Ok (i, rest)) × (d' ≡ with_item d i))
 taken-ok d d' (Ok (i, rest')) rest e =
     let p : ◌≡◌ {A = Draft × List ℕ} (d', rest) (with_item d i, rest') = cc in (i, (ap (λ v. Ok (i, v.1)) (sym p), ap (λ v. v.0) p))
-taken-ok d d' (Err f) rest e = let z : ◌≡◌ {A = ℕ} 0 1 = cc in absurd (omega arith)
+taken-ok d d' (Err f) rest e = absurd (cc)
 
 pub taken-err : (d : Draft) (v : Result (Item × List ℕ) LineFault) (f : LineFault) → Err f ≡ taken d v → v ≡ Err f
-taken-err d (Ok v) f e = let z : ◌≡◌ {A = ℕ} 0 1 = cc in absurd (omega arith)
+taken-err d (Ok v) f e = absurd (cc)
 taken-err d (Err h) f e = let same : h ≡ f = cc in ap Err same
-
-pub kept-on : (s t u : ItemReader) → Kept s t → Kept t u → Kept s u
-kept-on s t u k l = record { grammar = l.grammar ∙ k.grammar; line = l.line ∙ k.line; end = l.end ∙ k.end }
 
 -- an item takes at least one byte
 pub item-shorter : (g : Grammar) (d : Draft) (xs : List ℕ) (p : Place) (i : Item) (rest : List ℕ) → item_read g d xs p ≡ Ok (i, rest) → length rest < length xs
@@ -31,10 +28,11 @@ item-shorter g d (a ∷ (b ∷ [])) p i rest e = grind arith
 item-shorter g d (a ∷ (b ∷ (c ∷ xs))) p i rest e = grind arith
 
 -- What the bytes after an item give, with the item in the draft, the bytes from that item on give.
-pub onward : (s t : ItemReader) (r : Result Rule LineFault) → Kept s t → Ok (t.draft, t.rest.now) ≡ taken s.draft (item_read s.grammar s.draft s.rest.now (at s))
+pub onward : (s t : ItemReader) (u : Unit {0}) (r : Result Rule LineFault) → ItemTaken s (Ok u) t (item_read s.grammar s.draft s.rest.now (at s))
     → ItemsRead t.grammar t.draft t.rest.now (at t) r → ItemsRead s.grammar s.draft s.rest.now (at s) r
-onward s t r k e h =
-    let (i, (v, d)) = taken-ok s.draft t.draft (item_read s.grammar s.draft s.rest.now (at s)) t.rest.now e in
+onward s t u r taken h =
+    let k = taken.kept in
+    let (i, (v, d)) = taken-ok s.draft t.draft (item_read s.grammar s.draft s.rest.now (at s)) t.rest.now taken.value in
     let less = item-shorter s.grammar s.draft s.rest.now (at s) i t.rest.now v in
     let within = s.within in
     let end = k.end in

@@ -52,7 +52,7 @@ space-due : (g : Grammar) (is : List Item) (rest : List ℕ) (kind : Kind) → A
 space-due g is rest = by_kind g is between (32 ∷ rest) (λ _. ⊥) (λ h. h refl) (λ x n w. n) (λ x n w. n) (λ n w. n)
 
 pub bang-named : (x : Name) → name_of 33 ≡ Some x → ⊥
-bang-named x e = let z : ◌≡◌ {A = ℕ} 0 1 = cc in omega arith
+bang-named x e = cc
 
 -- nor is a ! after a space, in a guarded list
 bang-due : (g : Grammar) (is : List Item) (rest : List ℕ) (kind : Kind) → g.letter ≡ Guarded → Amiss g is spaced (33 ∷ rest) kind → ⊥

@@ -55,8 +55,8 @@ spells-loud g x t s = ap silent s.bytes ∙ loud t.effect
     loud Deny = refl
 
 no_text : (b : Bool) (x : Name) (xs : List ℕ) → [] ≡ spelled (item b x) ++ xs → ⊥
-no_text true x xs e = let z : ◌≡◌ {A = ℕ} 0 1 = cc in omega arith
-no_text false x xs e = let z : ◌≡◌ {A = ℕ} 0 1 = cc in omega arith
+no_text true x xs e = cc
+no_text false x xs e = cc
 
 joined-one : (is js : List Item) → AllByRecursion (λ i. Known i.name) is → AllByRecursion (λ i. Known i.name) js → flat_map spelled is ≡ flat_map spelled js → is ≡ js
 joined-one [] [] h k e = refl

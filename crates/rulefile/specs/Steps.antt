@@ -134,6 +134,11 @@ abbrev pub taken : Draft → Result (Item × List ℕ) LineFault → Result (Dra
 taken d (Ok v) = Ok (with_item d v.0, v.1)
 taken d (Err e) = Err e
 
+-- the reader s read an item, or found one at fault, as `read` tells, and is then t
+pub record ItemTaken (s : ItemReader) (r : Result (Unit {0}) LineFault) (t : ItemReader) (read : Result (Item × List ℕ) LineFault) : Type 0 where
+  pub kept : Kept s t
+  pub value : told t r ≡ taken s.draft read
+
 -- the effect that a mark stands for
 abbrev pub mark_read : Grammar → ℕ → Place → Result Effect LineFault
 mark_read g b p =

@@ -32,7 +32,7 @@ pub(crate) struct ItemReader<'a> {
 }
 
 impl<'a> ItemReader<'a> {
-    ghost use Rattle.rulefile.specs.Steps.{at, Kept, with_rest, name_read, told, taken, new_item, after_space, item_read, ItemsRead};
+    ghost use Rattle.rulefile.specs.Steps.{at, Kept, with_rest, name_read, ItemTaken, new_item, after_space, item_read, ItemsRead};
 
     // The place of the first byte that is left, or of the line's end.
     fn place(&self) -> Place
@@ -65,8 +65,7 @@ impl<'a> ItemReader<'a> {
 
     // An item by its name, which is new to the line.
     fn new_item(&mut self, barred: bool) -> Result<(), LineFault>
-        ensures kept { Kept self.old self.new }
-        ensures value { told self.new result ≡ taken self.old.draft (new_item self.old.grammar self.old.draft barred self.old.rest.now (at self.old)) }
+        ensures { ItemTaken self.old result self.new (new_item self.old.grammar self.old.draft barred self.old.rest.now (at self.old)) }
     {
         let place = self.place();
         let name = self.read_name()?;
@@ -80,8 +79,7 @@ impl<'a> ItemReader<'a> {
 
     // After an item's space: a `!` and a name, or a name alone. The `!` itself is at fault in a list of a model.
     fn after_space(&mut self) -> Result<(), LineFault>
-        ensures kept { Kept self.old self.new }
-        ensures value { told self.new result ≡ taken self.old.draft (after_space self.old.grammar self.old.draft self.old.rest.now (at self.old)) }
+        ensures { ItemTaken self.old result self.new (after_space self.old.grammar self.old.draft self.old.rest.now (at self.old)) }
     {
         let [first, rest @ ..] = self.rest else {
             return Err(LineFault::Item(ItemFault::NotDue(self.place())));
@@ -98,8 +96,7 @@ impl<'a> ItemReader<'a> {
 
     // The first item that is left.
     fn read_item(&mut self) -> Result<(), LineFault>
-        ensures kept { Kept self.old self.new }
-        ensures value { told self.new result ≡ taken self.old.draft (item_read self.old.grammar self.old.draft self.old.rest.now (at self.old)) }
+        ensures { ItemTaken self.old result self.new (item_read self.old.grammar self.old.draft self.old.rest.now (at self.old)) }
     {
         let [b' ', rest @ ..] = self.rest else {
             return Err(LineFault::Item(ItemFault::NotDue(self.place())));

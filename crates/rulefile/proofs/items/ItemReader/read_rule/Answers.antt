@@ -1,7 +1,7 @@
 use Rattle.std.proofs.Common.{Ok, Err, rules}
 use Rattle.std.proofs.lemmas.Result.{err_from_is_err_and}
 use Rattle.rulefile.specs.Steps.{end, bad, finished}
-use Rattle.rulefile.proofs.Onward.{onward, kept-on, taken-err}
+use Rattle.rulefile.proofs.Onward.{onward, taken-err}
 use Rattle.rulefile.proofs.items.ItemReader.read_rule.Goals as goal
 
 pub returns-in_err-read_item : goal.returns-in_err-read_item
@@ -12,8 +12,8 @@ returns-in_err-read_item c =
 
 pub loop-self-preserved : goal.loop-self-preserved
 loop-self-preserved c = (
-  kept-on c.args.self c.loop-self.self c.read_item.new.self c.loop-self.invariant.0 c.in_ok-read_item.ensures.kept,
-  λ r h. c.loop-self.invariant.1 r (onward c.loop-self.self c.read_item.new.self r c.in_ok-read_item.ensures.kept c.in_ok-read_item.ensures.value h),
+  search rules,
+  λ r h. c.loop-self.invariant.1 r (onward c.loop-self.self c.read_item.new.self _ r c.in_ok-read_item.ensures h),
 )
 
 pub returns : goal.returns
