@@ -1,7 +1,7 @@
 -- The tests of a list tell what the relations say.
 use Rattle.std.proofs.Common.{◌≡◌, ℕ, ◌<◌, Bool, true, false, not, ◌&&◌, eqb, ◌⊎◌, List, [], ◌∷◌, Decides, sym, refl, ap, ◌∙◌, subst, inl, inr, ⊎_elim, arith}
 use mathlib.Core.List.Memᴰ
-use Rattle.std.proofs.lemmas.Bool.{and_left, and_right, not-true, not_from_false, cases_Bool, false≢true}
+use Rattle.std.proofs.lemmas.Bool.{not-true, not_from_false, cases_Bool, false≢true}
 use Rattle.std.proofs.lemmas.Bool.Decides.{Decides-and, Decides-below_and, Decides-eqb, Decides-like, Decides-or, same_from_decides}
 use Rattle.ladders.specs.Ladders.{Lawful}
 use Rattle.ladders.specs.Sets.{holds}
@@ -38,8 +38,8 @@ module _ {posts : ℕ} {f : ℕ → ℕ → Bool} (laws : Lawful posts f) where
   clears-tells : (post barred : ℕ) → Decides (clears f post barred) (Clear f post barred)
   clears-tells post barred =
       Decides-like (clears f post barred)
-      (λ none. clear-all laws post barred 8 (omega arith) (λ p lt h. sym (ap (λ b. b && f post p) h) ∙ none p lt))
-      (λ clear p _. ⊎_elim (λ h. and_right (holds barred p) (f post p) (clear p h)) (and_left (holds barred p) (f post p)) (cases_Bool (holds barred p)))
+      (λ none. clear-all laws post barred (λ p lt h. let fails = none p lt in grind arith))
+      (λ clear p _. let fails = clear p in let cases = cases_Bool (holds barred p) in grind arith)
       (none-tells (λ p. holds barred p && f post p) 8)
 
   pub applies-tells : (t : Rule) (q : Request) → Decides (applies f t q) (Applies f t q)

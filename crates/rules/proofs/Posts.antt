@@ -1,19 +1,18 @@
 -- What is shown by asking of every number that can be a post.
 use Rattle.std.proofs.Common.{◌≡◌, ℕ, zero, suc, ◌+◌, ◌<◌, ◌≤◌, Bool, true, false, not, ◌&&◌, Decides, refl, subst, ⊎_elim, arith}
 use Rattle.std.specs.List.{list_any, range_with_len}
-use Rattle.std.proofs.lemmas.Bool.{cases_Bool, cases_eq, cases_lt, not-true, not_from_false, or_parts}
+use Rattle.std.proofs.lemmas.Bool.{cases_Bool, cases_eq, not-true, not_from_false, or_parts}
 use Rattle.ladders.specs.Ladders.{Lawful}
 use Rattle.ladders.specs.Sets.{holds}
 use Rattle.rules.specs.Rules.{Clear}
 
--- no number from 8 on is a post
-none-past : {posts : ℕ} {f : ℕ → ℕ → Bool} → Lawful posts f → (post p : ℕ) → 8 ≤ p → f post p ≡ false
-none-past {posts} {f} laws post p h =
-    ⊎_elim (λ (t : f post p ≡ true). absurd (omega (arith, laws.few, (laws.within post p t).1))) (λ (t : f post p ≡ false). t) (cases_Bool (f post p))
-
 -- eight numbers are all that can be posts
-pub clear-all : {posts : ℕ} {f : ℕ → ℕ → Bool} → Lawful posts f → (post barred i : ℕ) → 8 ≤ i → ((k : ℕ) → k < i → holds barred k ≡ true → f post k ≡ false) → Clear f post barred
-clear-all laws post barred i h inv p e = ⊎_elim (λ (lt : p < i). inv p lt e) (λ (ge : i ≤ p). none-past laws post p (omega arith)) (cases_lt p i)
+pub clear-all : {posts : ℕ} {f : ℕ → ℕ → Bool} → Lawful posts f → (post barred : ℕ) → ((k : ℕ) → k < 8 → holds barred k ≡ true → f post k ≡ false) → Clear f post barred
+clear-all {posts} {f} laws post barred below p e =
+    let clear = below p in
+    let posts = laws.within post p in
+    let few = laws.few in
+    let cases = cases_Bool (f post p) in grind arith
 
 -- where none of n numbers passes, each of them fails
 fails-at : (t : ℕ → Bool) (a n k : ℕ) → list_any t (range_with_len a n) ≡ false → a ≤ k → k < a + n → t k ≡ false
@@ -28,6 +27,6 @@ none-passes t a (suc n) fails = rw (fails a) (none-passes t (a + 1) n fails)
 
 pub clear-tells : {posts : ℕ} {f : ℕ → ℕ → Bool} → Lawful posts f → (post barred : ℕ) → Decides (not (list_any (λ p. holds barred p && f post p) (range_with_len 0 8))) (Clear f post barred)
 clear-tells {posts} {f} laws post barred = (
-  λ e. clear-all laws post barred 8 (omega arith) (λ k lt has. let no = fails-at (λ p. holds barred p && f post p) 0 8 k (not-true _ e) (omega arith) (omega arith) in grind arith),
+  λ e. clear-all laws post barred (λ k lt has. let no = fails-at (λ p. holds barred p && f post p) 0 8 k (not-true _ e) (omega arith) (omega arith) in grind arith),
   λ clear. not_from_false _ (none-passes (λ p. holds barred p && f post p) 0 8 (λ k. let no = clear k in let cases = cases_Bool (holds barred k) in grind arith)),
 )

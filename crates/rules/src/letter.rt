@@ -58,7 +58,7 @@ pub enum Letter {
 }
 
 impl Letter {
-    // The character that stands for the letter in a rule file.
+    // The character that stands for the letter in a rule file. Its callers have this call, so it is no conversion by From.
     pub fn symbol(&self) -> char
         ensures { result ≡ letter_byte self.now }
     {
