@@ -1,5 +1,5 @@
 -- The first line tells its letter and its number of conditions, in one way.
-use Rattle.std.proofs.Common.{◌≡◌, ℕ, ◌+◌, ◌-◌, ◌≤◌, eqb, List, [], ◌∷◌, Some, None, Option, sym, refl, ap, ◌∙◌, subst, ap₂, arith}
+use Rattle.std.proofs.Common.{◌≡◌, ℕ, ◌+◌, ◌-◌, ◌≤◌, eqb, List, [], ◌∷◌, Some, None, Option, sym, refl, ap, subst, ap₂, arith}
 use Rattle.std.proofs.lemmas.Bool.{cond_both, eqb-true, eqb-false}
 use Rattle.std.proofs.lemmas.Bool.Decides.{nat_tests}
 use Rattle.rules.specs.declared.letter.Letter.{Letter}
@@ -17,20 +17,11 @@ letter-told (Model C) = refl
 letter-told (Model D) = refl
 
 letter-byte : (b : ℕ) (l : Letter) → letter_of b ≡ Some l → b ≡ letter_byte l
-letter-byte b l e =
-    cond_both (eqb b 71) (Some Guarded) _ (λ o. o ≡ Some l → b ≡ letter_byte l) (λ t f. eqb-true b 71 t ∙ ap byte f)
-    (λ _.
-    cond_both (eqb b 65) (Some (Model A)) _ (λ o. o ≡ Some l → b ≡ letter_byte l) (λ t f. eqb-true b 65 t ∙ ap byte f)
-    (λ _.
-    cond_both (eqb b 66) (Some (Model B)) _ (λ o. o ≡ Some l → b ≡ letter_byte l) (λ t f. eqb-true b 66 t ∙ ap byte f)
-    (λ _.
-    cond_both (eqb b 67) (Some (Model C)) _ (λ o. o ≡ Some l → b ≡ letter_byte l) (λ t f. eqb-true b 67 t ∙ ap byte f)
-    (λ _. cond_both (eqb b 68) (Some (Model D)) None (λ o. o ≡ Some l → b ≡ letter_byte l) (λ t f. eqb-true b 68 t ∙ ap byte f) (λ _ f. absurd (cc))))))
-    e
-  where
-    byte : Option Letter → ℕ
-    byte None = 0
-    byte (Some k) = letter_byte k
+letter-byte b Guarded e = grind (arith, nat_tests)
+letter-byte b (Model A) e = grind (arith, nat_tests)
+letter-byte b (Model B) e = grind (arith, nat_tests)
+letter-byte b (Model C) e = grind (arith, nat_tests)
+letter-byte b (Model D) e = grind (arith, nat_tests)
 
 digit-told : (n : ℕ) → n ≤ 9 → digit_of (48 + n) ≡ Some n
 digit-told n h = let e : (48 + n) - 48 ≡ n = omega arith in grind (arith, nat_tests)
