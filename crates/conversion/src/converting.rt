@@ -20,14 +20,9 @@ fn fitting<P: Policy, L: Ladder>(
 ) -> Result<Order, Unconverted>
     ensures { Fitted (L.posts ladder.now) (L.at_least ladder.now) conditions (P.meaning policy.now) result }
 {
-    match Order::of(ladder, conditions) {
-        Some(order) => if order.total == policy.requests() {
-            Ok(order)
-        } else {
-            Err(Unconverted::Misfit)
-        },
-        None => Err(Unconverted::Misfit),
-    }
+    Order::of(ladder, conditions)
+        .filter(|order| order.total == policy.requests())
+        .ok_or(Unconverted::Misfit)
 }
 
 impl Order {
