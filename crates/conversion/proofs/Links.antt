@@ -12,12 +12,10 @@ use Rattle.expressiveness.specs.Order.{Above as IsAbove}
 use Rattle.expressiveness.specs.Floors.{Over}
 use Rattle.expressiveness.proofs.Ground.{Ground}
 use Rattle.expressiveness.proofs.Requests.{ground, has-includes, includes-has, is-request}
-use Rattle.conversion.specs.declared.beyond.Link.{Link}
-use Rattle.conversion.specs.declared.beyond.Link.TheVariants.{Condition, Posts}
 use Rattle.conversion.specs.declared.order.Order.{Order}
-use Rattle.conversion.specs.declared.order.Side.{Side}
-use Rattle.conversion.specs.declared.order.Side.TheVariants.{Above, Below}
-use Rattle.conversion.specs.Beyond.{Beyond, LinkOf, Near, NearTo, OverIn, from_of, of_of, upper_of}
+use Rattle.conversion.specs.declared.side.Side.{Side}
+use Rattle.conversion.specs.declared.side.Side.TheVariants.{Above, Below}
+use Rattle.conversion.specs.Beyond.{Beyond, Condition, Link, LinkOf, Near, NearTo, OverIn, Posts, turned, upper_of}
 use Rattle.conversion.proofs.Bits.{added, added-post, lessened, low-holds, same_number}
 
 -- at or above, by the conditions that hold
@@ -92,9 +90,9 @@ module _ (o : Order) where
     pub upper : ℕ
     pub lower : ℕ
     pub link-is : upper_of n link lower ≡ Some upper
-    pub from : from_of side upper lower ≡ x
+    pub from : (turned side upper lower).0 ≡ x
     pub inside : lower < o.total
-    pub on : NearTo n c side (of_of side upper lower) y
+    pub on : NearTo n c side (turned side upper lower).1 y
 
   -- requests that are near up to c differ in c, or are nearer
   module _ (c : ℕ) (lt : c < n) where
@@ -181,12 +179,10 @@ module _ (o : Order) where
   by-posts-same Below x y h e = record { post = e; has = over-has n x y h.0; same = λ d le l. absurd (omega arith) }
 
   abbrev pub upper_post : Side → ℕ → ℕ → ℕ
-  upper_post Above x y = y / 2 ^ n
-  upper_post Below x y = x / 2 ^ n
+  upper_post side x y = (turned side x y).0 / 2 ^ n
 
   abbrev pub lower_post : Side → ℕ → ℕ → ℕ
-  lower_post Above x y = x / 2 ^ n
-  lower_post Below x y = y / 2 ^ n
+  lower_post side x y = (turned side x y).1 / 2 ^ n
 
   pub by-posts : (side : Side) (x y : ℕ) → Beyond o side x y → Onward n (Posts (upper_post side x y) (lower_post side x y)) side x y
   by-posts Above x y h =

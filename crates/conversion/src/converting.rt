@@ -5,7 +5,6 @@ ghost use Rattle.conversion.specs.Worked.{WorkedCases};
 
 use crate::chart::{chart, led_in};
 use crate::floors::FloorFlags;
-use crate::listing::count;
 use crate::order::Order;
 use crate::refusal::Unconverted;
 use ladders::Ladder;
@@ -35,15 +34,18 @@ impl Order {
     ) -> Result<(usize, usize), Unconverted>
         ensures { Listed self.now model floors.now slots.old result slots.new }
     {
-        let leads = count(&floors.lead, self.total);
-        let counters = count(&floors.counter, self.total);
-        if slots.len() < leads + counters {
-            return Err(Unconverted::FewSlots {
-                rules: leads + counters,
-            });
+        let leads = self.count(&floors.lead);
+        let counters = self.count(&floors.counter);
+        let rules = leads + counters;
+        if slots.len() < rules {
+            return Err(Unconverted::FewSlots { rules });
         }
-        let next = self.put_rules(model.lead_effect(), &floors.lead, 0, slots);
-        self.put_rules(model.default_effect(), &floors.counter, next, slots);
+        self.put_rules(model.lead_effect(), &floors.lead, &mut slots[..leads]);
+        self.put_rules(
+            model.default_effect(),
+            &floors.counter,
+            &mut slots[leads..rules],
+        );
         Ok((leads, counters))
     }
 }
@@ -67,8 +69,9 @@ pub fn convert<P: Policy, L: Ladder>(
             requests: order.total,
         });
     }
-    chart(policy, order.total, work);
-    let led = led_in(work, order.total, model.lead_effect());
+    let bytes = &mut work[..order.total];
+    chart(policy, bytes);
+    let led = led_in(bytes, model.lead_effect());
     let floors = order.floors(model, &led)?;
     order.list(model, &floors, slots)
 }

@@ -4,7 +4,7 @@ use Rattle.conversion.specs.Shapes.{In}
 use Rattle.conversion.proofs.Shaping.{some-counters}
 use Rattle.conversion.proofs.order.Order.convex_floors.Goals as goal
 
-pub returns-in-None : goal.returns-in-None
-returns-in-None c =
+pub returns : goal.returns
+returns c =
     let o = c.args.self.now in
-    (c.in-None.ensures, (c.without.ensures, some-counters o (CounterFloor (OverIn o) (In o c.args.led.now)) c.lowest_hopeless.result c.lowest_hopeless.ensures))
+    (c.in_default.ensures, (c.without.ensures, some-counters o (CounterFloor (OverIn o) (In o c.args.led.now)) c.lowest_hopeless.result c.lowest_hopeless.ensures))

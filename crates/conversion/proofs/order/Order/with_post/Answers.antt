@@ -3,8 +3,7 @@ use lib.Bits.{bit_and}
 use Rattle.std.proofs.lemmas.Nat.{shl_whole}
 use Rattle.std.proofs.lemmas.Bool.{cond-true, eq-eqb}
 use Rattle.rules.proofs.Numbers.{masked}
-use Rattle.conversion.specs.declared.beyond.Link.TheVariants.{Posts}
-use Rattle.conversion.specs.Beyond.{upper_of}
+use Rattle.conversion.specs.Beyond.{Posts, upper_of}
 use Rattle.conversion.proofs.order.Order.with_post.Goals as goal
 
 posted : (n p q lower : ℕ) → n ≤ 9 → p < 8 → lower / 2 ^ n ≡ q
