@@ -132,44 +132,44 @@ as-ordered {posts} {f} {n} {o} is P h =
     (subst (λ (g : ℕ → ℕ → Bool). P posts g o.conditions) (fun_ext (λ x. fun_ext (λ y. is.same x y)))
     (subst (λ (k : ℕ). P k (rows_at_least o.ladder.rows) o.conditions) is.posts-are h))
 
-module _ {posts : ℕ} {f : ℕ → ℕ → Bool} {n : ℕ} (laws : Lawful posts f) (p : Meaning) (m : Model) (work : List ℕ) (slots : List Rule) where
+-- the first work bytes hold the chart, and the flags tell which of them have the lead effect
+module _ (o : Order) (p : Meaning) (work : List ℕ) (room : o.total ≤ length work) (bytes : List ℕ) (chart-is : bytes ≡ chart_of p (length (take o.total work))) where
+  bytes-are : bytes ≡ chart_of p o.total
+  bytes-are = chart-is ∙ ap (chart_of p) (length-take-le o.total work room)
+
+  long : length bytes ≡ o.total
+  long = ap length bytes-are ∙ length-map-range_with_len (λ (k : ℕ). byte_of (p.effect k)) 0 o.total
+
+  left-is : filled (chart_of p o.total) work ≡ bytes ++ drop o.total work
+  left-is = sym (ap (λ n. bytes ++ drop n work) (sym long) ∙ ap (λ xs. filled xs work) bytes-are)
+
+  charted-bytes : (m : Model) (e : Effect) (led : Flags) → e ≡ lead m → BytesAre (byte_of e) bytes (length bytes) led → BytesAre (byte_of (lead m)) (chart_of p o.total) o.total led
+  charted-bytes m e led lead-is told =
+      subst (λ (b : ℕ). BytesAre b (chart_of p o.total) o.total led) (ap byte_of lead-is)
+      (subst (λ (w : List ℕ). BytesAre (byte_of e) w o.total led) bytes-are (subst (λ (k : ℕ). BytesAre (byte_of e) bytes k led) long told))
+
+module _ {posts : ℕ} {f : ℕ → ℕ → Bool} {n : ℕ} {p : Meaning} {m : Model} {work : List ℕ} {slots : List Rule} (laws : Lawful posts f) where
   pub converts-misfit : (Fits posts f n p m → ⊥) → Converts posts f n p m work slots (Err Misfit) work slots
   converts-misfit unfit = converts laws (unfit, (refl, refl))
 
-  module _ (o : Order) (is : IsOrder posts f n o) (size : o.total ≡ p.requests) where
+  module _ {o : Order} (fitted : IsOrder posts f n o × (o.total ≡ p.requests)) where
     pub converts-few-bytes : length work < o.total → Converts posts f n p m work slots (Err (FewWorkBytes o.total)) work slots
     converts-few-bytes few =
-        converts laws (as-ordered is (λ q g k. Answers q g k p m work slots (Err (FewWorkBytes o.total)) work slots) (few-bytes o p m size work slots few))
+        converts laws (as-ordered fitted.0 (λ q g k. Answers q g k p m work slots (Err (FewWorkBytes o.total)) work slots) (few-bytes o p m fitted.1 work slots few))
 
-    -- the first work bytes hold the chart, and the flags tell which of them have the lead effect
-    module _ (room : o.total ≤ length work) (led : Flags) (bytes : List ℕ) (chart-is : bytes ≡ chart_of p (length (take o.total work))) (e : Effect) (lead-is : e ≡ lead m)
+    module _ (room : o.total ≤ length work) (led : Flags) {bytes : List ℕ} {e : Effect} (chart-is : bytes ≡ chart_of p (length (take o.total work))) (lead-is : e ≡ lead m)
         (told : BytesAre (byte_of e) bytes (length bytes) led) where
-      abbrev left : List ℕ
-      left = bytes ++ drop o.total work
-
-      bytes-are : bytes ≡ chart_of p o.total
-      bytes-are = chart-is ∙ ap (chart_of p) (length-take-le o.total work room)
-
-      long : length bytes ≡ o.total
-      long = ap length bytes-are ∙ length-map-range_with_len (λ (k : ℕ). byte_of (p.effect k)) 0 o.total
-
-      charted-bytes : BytesAre (byte_of (lead m)) (chart_of p o.total) o.total led
-      charted-bytes =
-          subst (λ (b : ℕ). BytesAre b (chart_of p o.total) o.total led) (ap byte_of lead-is)
-          (subst (λ (w : List ℕ). BytesAre (byte_of e) w o.total led) bytes-are (subst (λ (k : ℕ). BytesAre (byte_of e) bytes k led) long told))
-
-      left-is : filled (chart_of p o.total) work ≡ left
-      left-is = sym (ap (λ n. bytes ++ drop n work) (sym long) ∙ ap (λ xs. filled xs work) bytes-are)
-
-      pub converts-stopped : (x : Unconverted) → Shaped o (default_overrides m) led (Err x) → Converts posts f n p m work slots (Err x) left slots
+      pub converts-stopped : (x : Unconverted) → Shaped o (default_overrides m) led (Err x) → Converts posts f n p m work slots (Err x) (bytes ++ drop o.total work) slots
       converts-stopped x shaped =
-          converts laws (as-ordered is (λ q g k. Answers q g k p m work slots (Err x) left slots)
-          (subst (λ (w : List ℕ). Answers (row_posts o.ladder.rows) (rows_at_least o.ladder.rows) o.conditions p m work slots (Err x) w slots) left-is
-          (stopped o p m size work slots room led charted-bytes x shaped)))
+          converts laws (as-ordered fitted.0 (λ q g k. Answers q g k p m work slots (Err x) (bytes ++ drop o.total work) slots)
+          (subst (λ (w : List ℕ). Answers (row_posts o.ladder.rows) (rows_at_least o.ladder.rows) o.conditions p m work slots (Err x) w slots)
+          (left-is o p work room bytes chart-is)
+          (stopped o p m fitted.1 work slots room led (charted-bytes o p work room bytes chart-is m e led lead-is told) x shaped)))
 
       pub converts-made : (floors : FloorFlags) → Shaped o (default_overrides m) led (Ok floors) → (r : Result (ℕ × ℕ) Unconverted) (slots' : List Rule)
-          → Listed o m floors slots r slots' → Converts posts f n p m work slots r left slots'
+          → Listed o m floors slots r slots' → Converts posts f n p m work slots r (bytes ++ drop o.total work) slots'
       converts-made floors shaped r slots' listed =
-          converts laws (as-ordered is (λ q g k. Answers q g k p m work slots r left slots')
-          (subst (λ (w : List ℕ). Answers (row_posts o.ladder.rows) (rows_at_least o.ladder.rows) o.conditions p m work slots r w slots') left-is
-          (made o p m size work slots room led charted-bytes floors shaped r slots' listed)))
+          converts laws (as-ordered fitted.0 (λ q g k. Answers q g k p m work slots r (bytes ++ drop o.total work) slots')
+          (subst (λ (w : List ℕ). Answers (row_posts o.ladder.rows) (rows_at_least o.ladder.rows) o.conditions p m work slots r w slots')
+          (left-is o p work room bytes chart-is)
+          (made o p m fitted.1 work slots room led (charted-bytes o p work room bytes chart-is m e led lead-is told) floors shaped r slots' listed)))

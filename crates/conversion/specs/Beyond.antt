@@ -1,5 +1,6 @@
 -- What the marking of requests answers: which requests have some of a set on one side. Only inner functions cite this.
-use Rattle.std.specs.Prelude.{◌≡◌, ℕ, ◌+◌, ◌*◌, ◌/◌, ◌%◌, ◌^◌, ◌<◌, ◌≤◌, Bool, true, cond, ◌⊎◌, Some, None, IfSome, Decides, Option, ◌==◌, ◌≢◌}
+use Rattle.std.specs.Prelude.{◌≡◌, ℕ, ◌+◌, ◌*◌, ◌/◌, ◌%◌, ◌^◌, ◌<◌, ◌≤◌, Bool, true, not, ◌⊎◌, IfSome, Decides, Option, ◌==◌, ◌≢◌}
+use Rattle.std.specs.Bool.{then_some}
 use Rattle.ladders.specs.Rows.{row_posts, rows_at_least}
 use Rattle.ladders.specs.Sets.{holds}
 use Rattle.expressiveness.specs.Floors.{Over}
@@ -45,8 +46,8 @@ pub data Link : Type 0 where
 
 -- The request right above another by a link: it has one condition more, or another post.
 abbrev pub upper_of : ℕ → Link → ℕ → Option ℕ
-upper_of n (Condition c) x = cond (holds x c) None (Some (x + 2 ^ c))
-upper_of n (Posts p q) x = cond (x / 2 ^ n == q) (Some (p * 2 ^ n + x % 2 ^ n)) None
+upper_of n (Condition c) x = then_some (not (holds x c)) (x + 2 ^ c)
+upper_of n (Posts p q) x = then_some (x / 2 ^ n == q) (p * 2 ^ n + x % 2 ^ n)
 
 -- The link is one of this order.
 abbrev pub LinkOf : Order → Link → Type 0

@@ -15,11 +15,7 @@ impl Order {
         requires { (c < self.now.conditions) × (lower < self.now.total) }
         ensures { result ≡ upper_of self.now.conditions (Condition c) lower }
     {
-        if has(lower as u16, c) {
-            None
-        } else {
-            Some(lower + (1 << c))
-        }
+        (!has(lower as u16, c)).then_some(lower + (1 << c))
     }
 
     // The request with post p and the same conditions, if its post is q.
@@ -27,12 +23,8 @@ impl Order {
         requires { (p < 8) × (lower < self.now.total) }
         ensures { result ≡ upper_of self.now.conditions (Posts p q) lower }
     {
-        if lower >> self.conditions == q {
-            let mask = (1 << self.conditions) - 1;
-            Some((p << self.conditions) + (lower & mask))
-        } else {
-            None
-        }
+        let mask = (1 << self.conditions) - 1;
+        (lower >> self.conditions == q).then_some((p << self.conditions) + (lower & mask))
     }
 
     // One pass over the requests, with a step from one to another above it: of two so linked, where the one on that side is of the set or marked, the

@@ -52,6 +52,7 @@ impl Order {
 
 // Converts a policy into a list of a model, on a ladder and with so many conditions. The work bytes are lent for a chart of the policy, and the
 // slots for the rules.
+#[tactic(auto, using(crate::proofs::Cases::worked_cases))]
 pub fn convert<P: Policy, L: Ladder>(
     policy: &P,
     ladder: &L,
