@@ -142,9 +142,6 @@ module _ (o : Order) where
   pair-at : (side : Side) (p q x y : ℕ) → q < 8 → Beyond o side x y → pair_of o side x y ≡ p * 8 + q → (upper_post o side x y ≡ p) × (lower_post o side x y ≡ q)
   pair-at side p q x y lt far e = let few = few-posts side x y far in (omega arith, omega arith)
 
-  pub posted-none : {side : Side} {members marks : Flags} → Sound o side members marks → Full o o.conditions side members marks → Posted o 0 side members marks
-  posted-none sound full = record { sound = sound; full = full; pairs = λ x y far pair ne mem. absurd (omega arith) }
-
   module _ {side : Side} {members marks : Flags} {p q : ℕ} (lt : q < 8) (posted : Posted o (p * 8 + q) side members marks) where
     pub posted-skip : (p ≡ q) ⊎ (rows_at_least o.ladder.rows p q ≡ false) → Posted o (p * 8 + (q + 1)) side members marks
     posted-skip unlinked =

@@ -1,10 +1,30 @@
 -- Rules put into slots one after the other, for the flags that are up.
-use Rattle.std.proofs.Common.{◌≡◌, ℕ, ◌+◌, ◌<◌, ◌≢◌, List, map, length, get_or, set, sym, ap, ◌∙◌, ⊎_elim, zero-add, arith, get_or-set_other, get_or-set_same}
-use Rattle.std.specs.List.{enumerate_from}
+use Rattle.std.proofs.Common.{◌≡◌, ℕ, ◌+◌, ◌-◌, ◌<◌, ◌≢◌, Bool, List, map, length, get_or, set, sym, ap, ◌∙◌, ⊎_elim, zero-add, arith, get_or-set_other, get_or-set_same}
+use Rattle.std.specs.List.{enumerate_from, filter, range_with_len}
+use Rattle.std.specs.Fn.{CalledAt}
+use Rattle.std.specs.Iterator.Adapters.{enumerate_count, enumerate_source, enumerate_steps, filter_callee, filter_source, filter_steps}
+use Rattle.std.specs.declared.iter.Enumerate.{Enumerate}
+use Rattle.std.specs.declared.iter.Filter.{Filter}
+use Rattle.std.specs.declared.ops.Range.{Range}
+use denote.Param.Members.{Mut}
+use denote.Ref.{Bor}
+use Rattle.std.proofs.lemmas.Iterator.{YieldsList, YieldsList-from_range}
+use Rattle.std.proofs.lemmas.Iterator.Consumers.{YieldsList-at, YieldsList-from_enumerate, YieldsList-from_filter}
+use Rattle.std.proofs.iter.Yields.{nat_range_steps}
 use Rattle.std.proofs.lemmas.Bool.{cases_eq}
 use Rattle.std.proofs.lemmas.List.{get_or-map, get_or_default, length-map, same_lists}
 use Rattle.std.proofs.lemmas.List.FromFn.{get_or-enumerate_from, length-enumerate_from}
 use Rattle.rules.specs.declared.rule.Rule.{Rule}
+
+-- the numbers below a total that pass a test, each with its place
+pub each-placed : {F : Type 0} {g : Mut F (Bor ℕ × Unit {0}) Bool} (test : ℕ → Bool) (total : ℕ) {it s : Enumerate (Filter (Range ℕ) F)} {within : Filter (Range ℕ) F} {f : F}
+    → it ≡ s → enumerate_source s ≡ within → enumerate_count s ≡ 0 → filter_source within ≡ record { start = 0; end = total } → filter_callee within ≡ f
+    → ((x : ℕ) (b : Bool) (q : F) → CalledAt g f x b q → (q ≡ f) × (b ≡ test x))
+    → YieldsList {B = ℕ × ℕ} (enumerate_steps (filter_steps nat_range_steps g)) (λ p. (p.0, p.1)) it (enumerate_from 0 (filter test (range_with_len 0 total)))
+each-placed {g = g} test total is source count whole callee calls =
+    YieldsList-at is
+    (YieldsList-from_enumerate
+    (YieldsList-at source (YieldsList-from_filter g test (YieldsList-from_range 0 total total whole (let e : total - 0 ≡ total = omega arith in e)) callee calls)) count)
 
 -- where the n-th of these floors is put, and which it is
 pub placed : (floors : List ℕ) (n place floor : ℕ) → (n < length (enumerate_from 0 floors)) × ((place, floor) ≡ get_or (enumerate_from 0 floors) n (place, floor))

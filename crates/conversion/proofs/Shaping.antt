@@ -1,6 +1,6 @@
 -- Gaps, steps and floors from what lies above and below.
-use Rattle.std.proofs.Common.{◌≡◌, ℕ, ◌<◌, ◌≤◌, Bool, true, false, not, ◌&&◌, ◌⊎◌, Decides, MatchOption, None, Some, Option, sym, refl, ap, ◌∙◌, subst, ap₂, inl, inr, ⊎_elim, arith}
-use Rattle.std.proofs.lemmas.Bool.{cases_Bool, cases_eq, false≢true}
+use Rattle.std.proofs.Common.{◌≡◌, ℕ, ◌<◌, ◌≤◌, Bool, true, false, not, ◌&&◌, ◌⊎◌, Decides, MatchOption, None, Some, Option, ap, ◌∙◌, subst, ap₂, inl, inr, ⊎_elim, arith}
+use Rattle.std.proofs.lemmas.Bool.{cases_Bool, cases_eq}
 use Rattle.std.proofs.lemmas.Bool.Decides.{Decides-and, Decides-at, Decides-like, Decides-not}
 use Rattle.expressiveness.specs.Order.{CounterFloor, FirstGap, FirstStep, Gap, Hopeless, Least, Minimal}
 use Rattle.expressiveness.proofs.Search.{least-like}
@@ -151,13 +151,6 @@ module _ (o : Order) where
             λ y far mem. let (z, (over, led-z)) = floor.least y far in (hopeless-tells y mem.0).0 mem.1 z over led-z,
           ))
           (flagged x h)
-
--- the counter floors where the default overrides, and none where the lead effect does
-pub some-counters : (o : Order) (P : ℕ → Type 0) (xs : Flags) → Flagged o P xs → Flagged o (λ x. (true ≡ true) × P x) xs
-some-counters o P xs flagged x h = Decides-like (flag xs x) (λ p. (refl, p)) (λ (_, p). p) (flagged x h)
-
-pub no-counters : (o : Order) (P : ℕ → Type 0) (xs : Flags) → ((r : ℕ) → flag xs r ≡ false) → Flagged o (λ x. (false ≡ true) × P x) xs
-no-counters o P xs none x h = (λ up. absurd (false≢true (sym (none x) ∙ up)), λ (e, _). absurd (false≢true e))
 
 -- the first that a search over all requests finds is the first of the set on that side
 pub first-beyond : (o : Order) (side : Side) (x : ℕ) (members : Flags) (r : Option ℕ)

@@ -1,6 +1,6 @@
 use Rattle.std.proofs.Common.{sym, ◌∙◌, inl, inr}
 use Rattle.std.proofs.lemmas.Bool.{false≢true}
-use Rattle.conversion.proofs.Passes.{above-inside, passed-more, passed_none, passed-skip, passed-stay}
+use Rattle.conversion.proofs.Passes.{above-inside, passed-more, passed-skip, passed-stay}
 use Rattle.conversion.proofs.order.Order.pass.Goals as goal
 use Rattle.conversion.proofs.order.Order.pass.Goals.{in-Some+then-has, then-has-via-then-has, then-has-via-else-has+then-has-2, in-Some+else-has+else-has-2, in_default}
 
@@ -8,9 +8,6 @@ pub raise-requires : goal.raise-requires
 raise-requires g c =
     let up = c.requires.up c.loop-lower.lower c.in-Some.upper c.loop-lower-test.true c.in-Some.ensures in
     rw c.turned-from.ensures (above-inside c.args.self.now c.args.side c.in-Some.upper c.loop-lower.lower up)
-
-pub loop-lower-init : goal.loop-lower-init
-loop-lower-init g c = passed_none
 
 pub loop-lower-preserved : goal.loop-lower-preserved
 loop-lower-preserved g c =

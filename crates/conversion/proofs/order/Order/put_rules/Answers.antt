@@ -1,12 +1,11 @@
-use Rattle.std.proofs.Common.{◌≡◌, ◌<◌, ◌∙◌, length, get_or, refl, arith, rules, tests}
-use Rattle.std.proofs.lemmas.Iterator.{YieldsList-from_range}
-use Rattle.std.proofs.lemmas.Iterator.Consumers.{YieldsList-at, YieldsList-end, YieldsList-from_enumerate, YieldsList-from_filter, YieldsList-turn}
+use Rattle.std.proofs.Common.{◌≡◌, ◌<◌, ◌∙◌, length, get_or, arith, rules, tests}
+use Rattle.std.proofs.lemmas.Iterator.Consumers.{YieldsList-end, YieldsList-turn}
 use Rattle.std.proofs.lemmas.List.{length_push}
 use Rattle.std.proofs.lemmas.List.FromFn.{length-enumerate_from}
 use Rattle.expressiveness.specs.Floors.{floor_rule}
 use Rattle.conversion.specs.Flags.{flag, raised}
 use Rattle.conversion.proofs.Raised.{raised-below}
-use Rattle.conversion.proofs.Putting.{placed, put-all, put-more}
+use Rattle.conversion.proofs.Putting.{each-placed, placed, put-all, put-more}
 use Rattle.conversion.proofs.order.Order.put_rules.Goals as goal
 
 -- where an iteration is among the floors
@@ -16,12 +15,8 @@ turn c =
     let total = c.args.self.now.total in
     placed (raised c.args.floors.now total) (length c.loop-place.yielded) c.in-Some.place c.in-Some.floor
     (YieldsList-turn
-    (YieldsList-at c.into_iter-place-iterator.ensures.into_iter_gives
-    (YieldsList-from_enumerate
-    (YieldsList-at c.enumerate-place-items.ensures.source
-    (YieldsList-from_filter _ (flag c.args.floors.now) (YieldsList-at c.filter.ensures.source (YieldsList-from_range 0 total total refl (omega arith)))
-    c.filter.ensures.closure (λ x b q k. search (rules, tests))))
-    c.enumerate-place-items.ensures.count))
+    (each-placed (flag c.args.floors.now) total c.into_iter-place-iterator.ensures.into_iter_gives c.enumerate-place-items.ensures.source c.enumerate-place-items.ensures.count
+    c.filter.ensures.source c.filter.ensures.closure (λ x b q k. search (rules, tests)))
     c.loop-place.yielded _ c.loop-place.yielded_by _ _ (c.in-Some.place, c.in-Some.floor) c.in-Some.is c.next.ensures.steps)
 
 pub floor_rule-requires : goal.floor_rule-requires
@@ -50,12 +45,8 @@ returns c =
     let total = c.args.self.now.total in
     let floors = raised c.args.floors.now total in
     let all = YieldsList-end
-    (YieldsList-at c.into_iter-place-iterator.ensures.into_iter_gives
-    (YieldsList-from_enumerate
-    (YieldsList-at c.enumerate-place-items.ensures.source
-    (YieldsList-from_filter _ (flag c.args.floors.now) (YieldsList-at c.filter.ensures.source (YieldsList-from_range 0 total total refl (omega arith)))
-    c.filter.ensures.closure (λ x b q k. search (rules, tests))))
-    c.enumerate-place-items.ensures.count))
+    (each-placed (flag c.args.floors.now) total c.into_iter-place-iterator.ensures.into_iter_gives c.enumerate-place-items.ensures.source c.enumerate-place-items.ensures.count
+    c.filter.ensures.source c.filter.ensures.closure (λ x b q k. search (rules, tests)))
     c.loop-place.yielded _ c.loop-place.yielded_by _ _ c.in-None.is c.next.ensures.steps in
     let long : length c.loop-place.yielded ≡ length floors = all.1 ∙ length-enumerate_from 0 floors in
     put-all (floor_rule c.args.self.now.conditions c.args.effect) floors c.loop-place.slots (c.loop-place.auto.slots ∙ c.requires)
