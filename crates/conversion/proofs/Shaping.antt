@@ -10,12 +10,16 @@ use Rattle.conversion.specs.declared.side.Side.{Side}
 use Rattle.conversion.specs.declared.side.Side.TheVariants.{Above, Below}
 use Rattle.conversion.specs.Flags.{Up, flag}
 use Rattle.conversion.specs.Beyond.{Beyond, OverIn, Tells}
-use Rattle.conversion.specs.Shapes.{AnyGap, AnyStep, FirstBeyond, Flagged, In, Lower, Middle, Unled}
+use Rattle.conversion.specs.Shapes.{AnyGap, AnyStep, FirstBeyond, Flagged, In, Lower, Middle}
 use Rattle.conversion.proofs.Links.{plain}
 
 pub beyond-inside : (o : Order) (side : Side) (x y : ℕ) → Beyond o side x y → (x < o.total) × (y < o.total)
 beyond-inside o Above x y h = let (a, b) = (plain o).within y x h.0 in (b, a)
 beyond-inside o Below x y h = (plain o).within x y h.0
+
+-- the flags of what is not led
+abbrev Unled : Flags → Flags → Type 0
+Unled led unled = (k : ℕ) → k < 4096 → flag unled k ≡ not (flag led k)
 
 -- a flag tells of itself
 itself : (b : Bool) → Decides b (b ≡ true)
@@ -79,6 +83,10 @@ module _ (o : Order) where
             lower-least = least-like (λ y (far, mem). (far, ((beyond-inside o Below x y far).1, mem))) (λ y (far, mem). (far, mem.1)) lower;
           }
 
+    pub no_step : (lowers : Flags) → Flagged o (Lower o led) lowers → ((x : ℕ) → x < o.total → Up lowers x → ⊥) → AnyStep o led → ⊥
+    no_step lowers tell none (u, l, step) =
+        none l step.lower-led.0 ((tell l step.lower-led.0).1 (step.lower-led.1, (u, (step.over, step.upper-not))))
+
     -- what is not led
     module _ (unled : Flags) (are : Unled led unled) where
       unled-tells : (x : ℕ) → x < o.total → Decides (flag unled x) (In o led x → ⊥)
@@ -100,10 +108,6 @@ module _ (o : Order) where
           (Decides-and (flag led x) (flag above x) (itself (flag led x)) (tells.each x h)))
 
       module _ (lowers : Flags) (tell : Flagged o (Lower o led) lowers) where
-        pub no_step : ((x : ℕ) → x < o.total → Up lowers x → ⊥) → AnyStep o led → ⊥
-        no_step none (u, l, step) =
-            none l step.lower-led.0 ((tell l step.lower-led.0).1 (step.lower-led.1, (u, (step.over, step.upper-not))))
-
         pub step-first : (u l : ℕ) → l < o.total → Least (Up lowers) l → FirstBeyond o Above l unled u → FirstStep (OverIn o) (In o led) u l
         step-first u l h (up, least) upper =
             record {

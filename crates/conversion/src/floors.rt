@@ -6,7 +6,7 @@ ghost use Rattle.conversion.specs.declared.side.Side.TheVariants.{Above, Below};
 ghost use Rattle.conversion.specs.declared.refusal.Unconverted.TheVariants.{Gap, Step};
 ghost use Rattle.conversion.specs.Flags.{Up};
 ghost use Rattle.conversion.specs.Beyond.{Beyond, OverIn, Tells};
-ghost use Rattle.conversion.specs.Shapes.{AnyGap, AnyStep, FirstBeyond, FirstGapAt, FirstStepAt, Flagged, In, Lower, Middle, Shaped, Unled};
+ghost use Rattle.conversion.specs.Shapes.{AnyGap, AnyStep, FirstBeyond, FirstGapAt, FirstStepAt, Flagged, In, Lower, Middle, Shaped};
 
 use crate::flags::Flags;
 use crate::order::Order;
@@ -62,6 +62,7 @@ impl From<StepAt> for Unconverted {
     }
 }
 
+// What lies above and below the led requests is found once and handed on, as `Tells` says: no ghost field can hold that, since it names witnesses.
 impl Order {
     // The first request whose flag is up.
     fn first_up(&self, flags: &Flags) -> Option<usize>
@@ -117,20 +118,18 @@ impl Order {
     }
 
     // The lower requests of steps: led, with one above that is not.
-    fn lowers(&self, led: &Flags, unled: &Flags) -> Flags
-        requires { Unled led.now unled.now }
+    fn lowers(&self, led: &Flags) -> Flags
         ensures { Flagged self.now (Lower self.now led.now) result }
     {
-        *led & self.beyond(Side::Above, unled)
+        *led & self.beyond(Side::Above, &!*led)
     }
 
     // The first step.
     fn first_step(&self, led: &Flags) -> Option<StepAt>
         ensures { MatchOption result (AnyStep self.now led.now → ⊥) (FirstStepAt self.now led.now) }
     {
-        let unled = !*led;
-        let lower = self.first_up(&self.lowers(led, &unled))?;
-        let upper = self.first_beyond(Side::Above, lower, &unled)?;
+        let lower = self.first_up(&self.lowers(led))?;
+        let upper = self.first_beyond(Side::Above, lower, &!*led)?;
         Some(StepAt { upper, lower })
     }
 

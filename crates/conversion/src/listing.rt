@@ -35,6 +35,7 @@ impl Order {
         requires { length slots.old ≡ length (raised floors.now self.now.total) }
         ensures { slots.new ≡ map (floor_rule self.now.conditions effect) (raised floors.now self.now.total) }
     {
+        // by their places: what a loop over `slots.iter_mut().zip(..)` writes is not known after it
         for (place, floor) in (0..self.total).filter(|r| floors.has(*r)).enumerate() {
             slots[place] = self.floor_rule(effect, floor);
         }
