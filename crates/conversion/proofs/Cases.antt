@@ -124,10 +124,10 @@ infixr 20 ◌also◌
 ◌also◌ : {P Q : Type 0} → P → Q → P × Q
 p also q = (p, q)
 
-pub worked-cases : WorkedCases
+pub worked_cases : WorkedCases
 unfolding none_below here defined obstacle? ground rising lead-floor? counter-floor? led-over? break? some-below? some-above? above? some? first first_below
     dec-like imp? by-effect effect? gap-at? step-at? first_above first-gap first_step first-gap? first-step? Dec.and Dec.not ℕ_discrete dec_lt
-worked-cases =
+worked_cases =
     grants (one_post 3) one refl crossed A tt
     also tells-gap (one_post 3) one refl crossed B refl tt
     also tells-step (one_post 3) one refl crossed C refl tt

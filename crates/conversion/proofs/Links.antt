@@ -1,8 +1,9 @@
 -- Links between requests next to one another, and how they lead to all requests on one side.
-use Rattle.std.proofs.Common.{◌≡◌, ℕ, ◌+◌, ◌*◌, ◌/◌, ◌%◌, ◌^◌, ◌<◌, ◌≤◌, Bool, true, false, cond, ◌||◌, eqb, ◌⊎◌, Some, None, sym, refl, ap, ◌∙◌, subst, inl, inr, ⊎_elim, arith, pow_pos}
+use Rattle.std.proofs.Common.{◌≡◌, ℕ, ◌+◌, ◌*◌, ◌/◌, ◌%◌, ◌^◌, ◌<◌, ◌≤◌, Bool, true, false, not, ◌||◌, eqb, ◌⊎◌, Some, sym, refl, ap, ◌∙◌, subst, inl, inr, ⊎_elim, arith, pow_pos}
+use Rattle.std.specs.Bool.{then_some}
 use lib.Bits.{and_self}
 use Rattle.std.proofs.lemmas.Nat.{div-mul-add, mod_below, mod-mul-add, shr_split}
-use Rattle.std.proofs.lemmas.Bool.{cases_Bool, cases_eq, cases_lt, cond-false, cond-true, eq-eqb, eqb-true, false≢true, ne_eqb, or_left, or_right}
+use Rattle.std.proofs.lemmas.Bool.{cases_Bool, cases_eq, cases_lt, eq-eqb, eqb-true, false≢true, ne_eqb, or_left, or_right}
 use Rattle.ladders.specs.Ladders.{Lawful}
 use Rattle.ladders.specs.Rows.{row_posts, rows_at_least}
 use Rattle.ladders.specs.Sets.{holds}
@@ -11,12 +12,10 @@ use Rattle.expressiveness.specs.Order.{Above as IsAbove}
 use Rattle.expressiveness.specs.Floors.{Over}
 use Rattle.expressiveness.proofs.Ground.{Ground}
 use Rattle.expressiveness.proofs.Requests.{ground, has-includes, includes-has, is-request}
-use Rattle.conversion.specs.declared.beyond.Link.{Link}
-use Rattle.conversion.specs.declared.beyond.Link.TheVariants.{Condition, Posts}
 use Rattle.conversion.specs.declared.order.Order.{Order}
-use Rattle.conversion.specs.declared.order.Side.{Side}
-use Rattle.conversion.specs.declared.order.Side.TheVariants.{Above, Below}
-use Rattle.conversion.specs.Beyond.{Beyond, LinkOf, Near, NearTo, OverIn, from_of, of_of, upper_of}
+use Rattle.conversion.specs.declared.side.Side.{Side}
+use Rattle.conversion.specs.declared.side.Side.TheVariants.{Above, Below}
+use Rattle.conversion.specs.Beyond.{Beyond, Condition, Link, LinkOf, Near, NearTo, OverIn, Posts, turned, upper_of}
 use Rattle.conversion.proofs.Bits.{added, added-post, lessened, low-holds, same_number}
 
 -- at or above, by the conditions that hold
@@ -36,13 +35,13 @@ or-none true = refl
 or-none false = refl
 
 -- what a link has answered
-linked : {X : Type 0} (b : Bool) (u v : X) → cond b None (Some u) ≡ Some v → (b ≡ false) × (u ≡ v)
-linked true u v e = absurd (let z : ◌≡◌ {A = ℕ} 0 1 = cc in omega arith)
-linked false u v e = (refl, cc)
+linked : {X : Type 0} (b : Bool) (u v : X) → then_some b u ≡ Some v → (b ≡ true) × (u ≡ v)
+linked true u v e = (refl, cc)
+linked false u v e = absurd (let z : ◌≡◌ {A = ℕ} 0 1 = cc in omega arith)
 
-linked-at : {X : Type 0} (b : Bool) (u v : X) → cond b (Some u) None ≡ Some v → (b ≡ true) × (u ≡ v)
-linked-at true u v e = (refl, cc)
-linked-at false u v e = absurd (let z : ◌≡◌ {A = ℕ} 0 1 = cc in omega arith)
+lacked : (b : Bool) → not b ≡ true → b ≡ false
+lacked true e = absurd (false≢true e)
+lacked false e = refl
 
 module _ (o : Order) where
   abbrev f : ℕ → ℕ → Bool
@@ -65,14 +64,15 @@ module _ (o : Order) where
   -- a link leads up
   pub link_up : (link : Link) → LinkOf o link → (lower upper : ℕ) → lower < o.total → upper_of n link lower ≡ Some upper → IsAbove (OverIn o) upper lower
   link_up (Condition c) lt lower upper h e =
-      let (lacking, sum) = linked (holds lower c) (lower + 2 ^ c) upper e in
+      let (lacks, sum) = linked (not (holds lower c)) (lower + 2 ^ c) upper e in
+      let lacking = lacked (holds lower c) lacks in
       let post : upper / 2 ^ n ≡ lower / 2 ^ n = ap (λ z. z / 2 ^ n) (sym sum) ∙ added-post n lower c lt lacking in
       let itself = (plain.itself lower h).post in (
         has-over f n upper lower (rw post itself) (λ d _ t. ap (λ z. holds z d) (sym sum) ∙ added lower c d lacking ∙ or_left (holds lower d) (eqb c d) t),
         λ same. omega (arith, pow_pos c),
       )
   link_up (Posts p q) (above, apart) lower upper h e =
-      let (at, sum) = linked-at (eqb (lower / 2 ^ n) q) (p * 2 ^ n + lower % 2 ^ n) upper e in
+      let (at, sum) = linked (eqb (lower / 2 ^ n) q) (p * 2 ^ n + lower % 2 ^ n) upper e in
       let low = mod_below lower (2 ^ n) (pow_pos n) in
       let post : upper / 2 ^ n ≡ p = ap (λ z. z / 2 ^ n) (sym sum) ∙ div-mul-add p (2 ^ n) (lower % 2 ^ n) low in
       let set : upper % 2 ^ n ≡ lower % 2 ^ n = ap (λ z. z % 2 ^ n) (sym sum) ∙ mod-mul-add p (2 ^ n) (lower % 2 ^ n) low in
@@ -91,9 +91,9 @@ module _ (o : Order) where
     pub upper : ℕ
     pub lower : ℕ
     pub link-is : upper_of n link lower ≡ Some upper
-    pub from : from_of side upper lower ≡ x
+    pub from : (turned side upper lower).0 ≡ x
     pub inside : lower < o.total
-    pub on : NearTo n c side (of_of side upper lower) y
+    pub on : NearTo n c side (turned side upper lower).1 y
 
   -- requests that are near up to c differ in c, or are nearer
   module _ (c : ℕ) (lt : c < n) where
@@ -126,7 +126,7 @@ module _ (o : Order) where
       same_post = ap (λ w. w / 2 ^ n) sum ∙ added-post n z c lt lacking
 
       is-linked : upper_of n (Condition c) z ≡ Some x
-      is-linked = cond-false (holds z c) None (Some (z + 2 ^ c)) lacking ∙ ap (λ w. Some w) (sym sum)
+      is-linked = ap (λ b. then_some (not b) (z + 2 ^ c)) lacking ∙ ap (λ w. Some w) (sym sum)
 
       -- what is near to x from below is near to z, and what is near to z from above is near to x
       near-less : (y : ℕ) → Near n (c + 1) x y → holds y c ≡ false → Near n c z y
@@ -180,19 +180,17 @@ module _ (o : Order) where
   by-posts-same Below x y h e = record { post = e; has = over-has n x y h.0; same = λ d le l. absurd (omega arith) }
 
   abbrev pub upper_post : Side → ℕ → ℕ → ℕ
-  upper_post Above x y = y / 2 ^ n
-  upper_post Below x y = x / 2 ^ n
+  upper_post side x y = (turned side x y).0 / 2 ^ n
 
   abbrev pub lower_post : Side → ℕ → ℕ → ℕ
-  lower_post Above x y = x / 2 ^ n
-  lower_post Below x y = y / 2 ^ n
+  lower_post side x y = (turned side x y).1 / 2 ^ n
 
   pub by-posts : (side : Side) (x y : ℕ) → Beyond o side x y → Onward n (Posts (upper_post side x y) (lower_post side x y)) side x y
   by-posts Above x y h =
       record {
         upper = at-post (y / 2 ^ n) x;
         lower = x;
-        link-is = cond-true (eqb (x / 2 ^ n) (x / 2 ^ n)) (Some (at-post (y / 2 ^ n) x)) None (eq-eqb (x / 2 ^ n) (x / 2 ^ n) refl);
+        link-is = ap (λ b. then_some b (at-post (y / 2 ^ n) x)) (eq-eqb (x / 2 ^ n) (x / 2 ^ n) refl);
         from = refl;
         inside = (plain.within y x h.0).1;
         on =
@@ -208,7 +206,7 @@ module _ (o : Order) where
         upper = x;
         lower = z;
         link-is =
-            cond-true (eqb (z / 2 ^ n) (y / 2 ^ n)) (Some (x / 2 ^ n * 2 ^ n + z % 2 ^ n)) None (eq-eqb (z / 2 ^ n) (y / 2 ^ n) (at-post-post (y / 2 ^ n) x))
+            ap (λ b. then_some b (x / 2 ^ n * 2 ^ n + z % 2 ^ n)) (eq-eqb (z / 2 ^ n) (y / 2 ^ n) (at-post-post (y / 2 ^ n) x))
             ∙ ap (λ w. Some w) (ap (λ w. x / 2 ^ n * 2 ^ n + w) (at-post-set (y / 2 ^ n) x) ∙ shr_split x n);
         from = refl;
         inside =

@@ -1,7 +1,7 @@
 -- What a conversion answers, from the order of the requests, the chart in the work bytes, and the floors or what stands in their way.
-use Rattle.std.proofs.Common.{◌≡◌, ℕ, ◌<◌, ◌≤◌, Bool, true, false, cond, List, length, drop, get_or, Ok, Err, Result, sym, refl, ap, ◌∙◌, subst, arith}
+use Rattle.std.proofs.Common.{◌≡◌, ℕ, ◌<◌, ◌≤◌, Bool, true, false, cond, List, ◌++◌, length, take, drop, get_or, Ok, Err, Result, sym, refl, ap, ◌∙◌, subst, arith}
 use mathlib.Core.Path.{fun_ext}
-use Rattle.std.proofs.lemmas.List.{get_or_append_left}
+use Rattle.std.proofs.lemmas.List.{length-take-le}
 use Rattle.std.proofs.lemmas.List.FromFn.{get_or-map-range_with_len, length-map-range_with_len}
 use Rattle.ladders.specs.Ladders.{Lawful}
 use Rattle.ladders.specs.Rows.{row_posts, rows_at_least}
@@ -15,6 +15,7 @@ use Rattle.policies.specs.Policies.{Meaning}
 use Rattle.expressiveness.specs.Order.{CounterFloor, Gap as IsGap, LeadFloor, Rising, Step as IsStep}
 use Rattle.expressiveness.specs.Floors.{Led, Over}
 use Rattle.expressiveness.proofs.Rising.{rising-like}
+use Rattle.conversion.specs.declared.flags.Flags.{Flags}
 use Rattle.conversion.specs.declared.floors.FloorFlags.{FloorFlags}
 use Rattle.conversion.specs.declared.order.Order.{Order}
 use Rattle.conversion.specs.declared.refusal.Unconverted.{Unconverted}
@@ -59,19 +60,15 @@ module _ (o : Order) (p : Meaning) (m : Model) (size : o.total ≡ p.requests) (
   few-bytes : length work < o.total → Answers posts f n p m work slots (Err (FewWorkBytes o.total)) work slots
   few-bytes few = (fits, (o.whole, (few, (refl, refl))))
 
-  module _ (room : o.total ≤ length work) (led : List Bool) (bytes : BytesAre (byte_of (lead m)) chart o.total led) where
+  module _ (room : o.total ≤ length work) (led : Flags) (bytes : BytesAre (byte_of (lead m)) (chart_of p o.total) o.total led) where
     ready : Ready posts f n p m work
     ready = (fits, subst (λ (k : ℕ). k ≤ length work) o.whole room)
 
     chart-is : chart ≡ charted posts f n p m work
     chart-is = ap (λ (k : ℕ). filled (chart_of p k) work) o.whole
 
-    byte-at : (r : ℕ) → r < o.total → get_or chart r 0 ≡ byte_of (p.effect r)
-    byte-at r h =
-        let bytes = λ (k : ℕ). byte_of (p.effect k) in
-        let long : length (chart_of p o.total) ≡ o.total = length-map-range_with_len bytes 0 o.total in
-        get_or_append_left (chart_of p o.total) (drop (length (chart_of p o.total)) work) 0 r (omega arith)
-        ∙ get_or-map-range_with_len bytes 0 o.total r r 0 h (omega arith)
+    byte-at : (r : ℕ) → r < o.total → get_or (chart_of p o.total) r 0 ≡ byte_of (p.effect r)
+    byte-at r h = get_or-map-range_with_len (λ (k : ℕ). byte_of (p.effect k)) 0 o.total r r 0 h (omega arith)
 
     -- the flags are those of the requests with the lead effect
     to-leading : (r : ℕ) → In o led r → Leading r
@@ -135,29 +132,44 @@ as-ordered {posts} {f} {n} {o} is P h =
     (subst (λ (g : ℕ → ℕ → Bool). P posts g o.conditions) (fun_ext (λ x. fun_ext (λ y. is.same x y)))
     (subst (λ (k : ℕ). P k (rows_at_least o.ladder.rows) o.conditions) is.posts-are h))
 
-module _ {posts : ℕ} {f : ℕ → ℕ → Bool} {n : ℕ} (laws : Lawful posts f) (p : Meaning) (m : Model) (work : List ℕ) (slots : List Rule) where
+-- the first work bytes hold the chart, and the flags tell which of them have the lead effect
+module _ (o : Order) (p : Meaning) (work : List ℕ) (room : o.total ≤ length work) (bytes : List ℕ) (chart-is : bytes ≡ chart_of p (length (take o.total work))) where
+  bytes-are : bytes ≡ chart_of p o.total
+  bytes-are = chart-is ∙ ap (chart_of p) (length-take-le o.total work room)
+
+  long : length bytes ≡ o.total
+  long = ap length bytes-are ∙ length-map-range_with_len (λ (k : ℕ). byte_of (p.effect k)) 0 o.total
+
+  left-is : filled (chart_of p o.total) work ≡ bytes ++ drop o.total work
+  left-is = sym (ap (λ n. bytes ++ drop n work) (sym long) ∙ ap (λ xs. filled xs work) bytes-are)
+
+  charted-bytes : (m : Model) (e : Effect) (led : Flags) → e ≡ lead m → BytesAre (byte_of e) bytes (length bytes) led → BytesAre (byte_of (lead m)) (chart_of p o.total) o.total led
+  charted-bytes m e led lead-is told =
+      subst (λ (b : ℕ). BytesAre b (chart_of p o.total) o.total led) (ap byte_of lead-is)
+      (subst (λ (w : List ℕ). BytesAre (byte_of e) w o.total led) bytes-are (subst (λ (k : ℕ). BytesAre (byte_of e) bytes k led) long told))
+
+module _ {posts : ℕ} {f : ℕ → ℕ → Bool} {n : ℕ} {p : Meaning} {m : Model} {work : List ℕ} {slots : List Rule} (laws : Lawful posts f) where
   pub converts-misfit : (Fits posts f n p m → ⊥) → Converts posts f n p m work slots (Err Misfit) work slots
   converts-misfit unfit = converts laws (unfit, (refl, refl))
 
-  module _ (o : Order) (is : IsOrder posts f n o) (size : o.total ≡ p.requests) where
+  module _ {o : Order} (fitted : IsOrder posts f n o × (o.total ≡ p.requests)) where
     pub converts-few-bytes : length work < o.total → Converts posts f n p m work slots (Err (FewWorkBytes o.total)) work slots
     converts-few-bytes few =
-        converts laws (as-ordered is (λ q g k. Answers q g k p m work slots (Err (FewWorkBytes o.total)) work slots) (few-bytes o p m size work slots few))
+        converts laws (as-ordered fitted.0 (λ q g k. Answers q g k p m work slots (Err (FewWorkBytes o.total)) work slots) (few-bytes o p m fitted.1 work slots few))
 
-    module _ (room : o.total ≤ length work) (led : List Bool) (work' : List ℕ) (chart-is : work' ≡ filled (chart_of p o.total) work) (e : Effect) (lead-is : e ≡ lead m)
-        (bytes : BytesAre (byte_of e) work' o.total led) where
-      charted-bytes : BytesAre (byte_of (lead m)) (filled (chart_of p o.total) work) o.total led
-      charted-bytes = subst (λ (b : ℕ). BytesAre b (filled (chart_of p o.total) work) o.total led) (ap byte_of lead-is) (subst (λ (w : List ℕ). BytesAre (byte_of e) w o.total led) chart-is bytes)
-
-      pub converts-stopped : (x : Unconverted) → Shaped o (default_overrides m) led (Err x) → Converts posts f n p m work slots (Err x) work' slots
+    module _ (room : o.total ≤ length work) (led : Flags) {bytes : List ℕ} {e : Effect} (chart-is : bytes ≡ chart_of p (length (take o.total work))) (lead-is : e ≡ lead m)
+        (told : BytesAre (byte_of e) bytes (length bytes) led) where
+      pub converts-stopped : (x : Unconverted) → Shaped o (default_overrides m) led (Err x) → Converts posts f n p m work slots (Err x) (bytes ++ drop o.total work) slots
       converts-stopped x shaped =
-          converts laws (as-ordered is (λ q g k. Answers q g k p m work slots (Err x) work' slots)
-          (subst (λ (w : List ℕ). Answers (row_posts o.ladder.rows) (rows_at_least o.ladder.rows) o.conditions p m work slots (Err x) w slots) (sym chart-is)
-          (stopped o p m size work slots room led charted-bytes x shaped)))
+          converts laws (as-ordered fitted.0 (λ q g k. Answers q g k p m work slots (Err x) (bytes ++ drop o.total work) slots)
+          (subst (λ (w : List ℕ). Answers (row_posts o.ladder.rows) (rows_at_least o.ladder.rows) o.conditions p m work slots (Err x) w slots)
+          (left-is o p work room bytes chart-is)
+          (stopped o p m fitted.1 work slots room led (charted-bytes o p work room bytes chart-is m e led lead-is told) x shaped)))
 
       pub converts-made : (floors : FloorFlags) → Shaped o (default_overrides m) led (Ok floors) → (r : Result (ℕ × ℕ) Unconverted) (slots' : List Rule)
-          → Listed o m floors slots r slots' → Converts posts f n p m work slots r work' slots'
+          → Listed o m floors slots r slots' → Converts posts f n p m work slots r (bytes ++ drop o.total work) slots'
       converts-made floors shaped r slots' listed =
-          converts laws (as-ordered is (λ q g k. Answers q g k p m work slots r work' slots')
-          (subst (λ (w : List ℕ). Answers (row_posts o.ladder.rows) (rows_at_least o.ladder.rows) o.conditions p m work slots r w slots') (sym chart-is)
-          (made o p m size work slots room led charted-bytes floors shaped r slots' listed)))
+          converts laws (as-ordered fitted.0 (λ q g k. Answers q g k p m work slots r (bytes ++ drop o.total work) slots')
+          (subst (λ (w : List ℕ). Answers (row_posts o.ladder.rows) (rows_at_least o.ladder.rows) o.conditions p m work slots r w slots')
+          (left-is o p work room bytes chart-is)
+          (made o p m fitted.1 work slots room led (charted-bytes o p work room bytes chart-is m e led lead-is told) floors shaped r slots' listed)))

@@ -1,21 +1,25 @@
 -- Gaps, steps and floors from what lies above and below.
-use Rattle.std.proofs.Common.{◌≡◌, ℕ, ◌<◌, Bool, true, false, not, ◌&&◌, ◌⊎◌, List, get_or, replicate, Decides, sym, refl, ap, ◌∙◌, subst, ap₂, inl, inr, ⊎_elim, arith}
-use Rattle.std.proofs.lemmas.Bool.{cases_Bool, cases_eq, false≢true}
+use Rattle.std.proofs.Common.{◌≡◌, ℕ, ◌<◌, ◌≤◌, Bool, true, false, not, ◌&&◌, ◌⊎◌, Decides, MatchOption, None, Some, Option, ap, ◌∙◌, subst, ap₂, inl, inr, ⊎_elim, arith}
+use Rattle.std.proofs.lemmas.Bool.{cases_Bool, cases_eq}
 use Rattle.std.proofs.lemmas.Bool.Decides.{Decides-and, Decides-at, Decides-like, Decides-not}
 use Rattle.expressiveness.specs.Order.{CounterFloor, FirstGap, FirstStep, Gap, Hopeless, Least, Minimal}
 use Rattle.expressiveness.proofs.Search.{least-like}
+use Rattle.conversion.specs.declared.flags.Flags.{Flags}
 use Rattle.conversion.specs.declared.order.Order.{Order}
-use Rattle.conversion.specs.declared.order.Side.{Side}
-use Rattle.conversion.specs.declared.order.Side.TheVariants.{Above, Below}
-use Rattle.conversion.specs.Flags.{Up}
+use Rattle.conversion.specs.declared.side.Side.{Side}
+use Rattle.conversion.specs.declared.side.Side.TheVariants.{Above, Below}
+use Rattle.conversion.specs.Flags.{Up, flag}
 use Rattle.conversion.specs.Beyond.{Beyond, OverIn, Tells}
-use Rattle.conversion.specs.Shapes.{AnyGap, AnyStep, FirstBeyond, Flagged, In, Lower, Middle, Unled}
+use Rattle.conversion.specs.Shapes.{AnyGap, AnyStep, FirstBeyond, Flagged, In, Lower, Middle}
 use Rattle.conversion.proofs.Links.{plain}
-use Rattle.conversion.proofs.Passes.{all-down}
 
 pub beyond-inside : (o : Order) (side : Side) (x y : ℕ) → Beyond o side x y → (x < o.total) × (y < o.total)
 beyond-inside o Above x y h = let (a, b) = (plain o).within y x h.0 in (b, a)
 beyond-inside o Below x y h = (plain o).within x y h.0
+
+-- the flags of what is not led
+abbrev Unled : Flags → Flags → Type 0
+Unled led unled = (k : ℕ) → k < 4096 → flag unled k ≡ not (flag led k)
 
 -- a flag tells of itself
 itself : (b : Bool) → Decides b (b ≡ true)
@@ -26,29 +30,29 @@ module _ (o : Order) where
   inside x h = omega (arith, o.most)
 
   -- the flags of a set less those with some of it below
-  pub lowest-tells : (members below rest lows : List Bool) → Tells o Below members below → Unled below rest
-      → ((k : ℕ) → k < 4096 → get_or lows k false ≡ (get_or members k false && get_or rest k false)) → Flagged o (Minimal (OverIn o) (In o members)) lows
+  pub lowest-tells : (members below rest lows : Flags) → Tells o Below members below → Unled below rest
+      → ((k : ℕ) → k < 4096 → flag lows k ≡ (flag members k && flag rest k)) → Flagged o (Minimal (OverIn o) (In o members)) lows
   lowest-tells members below rest lows tells rest-are are x h =
-      let m = get_or members x false in
-      let b = get_or below x false in
-      Decides-at (get_or lows x false) (m && not b) (are x (inside x h) ∙ ap (λ c. m && c) (rest-are x (inside x h)))
+      let m = flag members x in
+      let b = flag below x in
+      Decides-at (flag lows x) (m && not b) (are x (inside x h) ∙ ap (λ c. m && c) (rest-are x (inside x h)))
       (Decides-like (m && not b) (λ (up, none). ((h, up), λ y far mem. none (y, (far, mem.1))))
       (λ (mem, none). (mem.1, λ (y, (far, up)). none y far ((beyond-inside o Below x y far).1, up)))
       (Decides-and m (not b) (itself m) (Decides-not b (tells.each x h))))
 
-  module _ (led : List Bool) where
+  module _ (led : Flags) where
     -- the middles of gaps
-    pub middles-tell : (above below unled pair middles : List Bool) → Tells o Above led above → Tells o Below led below → Unled led unled
-        → ((k : ℕ) → k < 4096 → get_or pair k false ≡ (get_or above k false && get_or below k false))
-        → ((k : ℕ) → k < 4096 → get_or middles k false ≡ (get_or unled k false && get_or pair k false)) → Flagged o (Middle o led) middles
+    pub middles-tell : (above below unled pair middles : Flags) → Tells o Above led above → Tells o Below led below → Unled led unled
+        → ((k : ℕ) → k < 4096 → flag pair k ≡ (flag above k && flag below k))
+        → ((k : ℕ) → k < 4096 → flag middles k ≡ (flag unled k && flag pair k)) → Flagged o (Middle o led) middles
     middles-tell above below unled pair middles tells-above tells-below unled-are pair_is are x h =
-        let a = get_or above x false in
-        let b = get_or below x false in
-        Decides-at (get_or middles x false) (not (get_or led x false) && (a && b)) (are x (inside x h) ∙ ap₂ (λ p q. p && q) (unled-are x (inside x h)) (pair_is x (inside x h)))
-        (Decides-and (not (get_or led x false)) (a && b) (Decides-not (get_or led x false) (itself (get_or led x false)))
+        let a = flag above x in
+        let b = flag below x in
+        Decides-at (flag middles x) (not (flag led x) && (a && b)) (are x (inside x h) ∙ ap₂ (λ p q. p && q) (unled-are x (inside x h)) (pair_is x (inside x h)))
+        (Decides-and (not (flag led x)) (a && b) (Decides-not (flag led x) (itself (flag led x)))
         (Decides-and a b (tells-above.each x h) (tells-below.each x h)))
 
-    module _ (middles : List Bool) (tell : Flagged o (Middle o led) middles) where
+    module _ (middles : Flags) (tell : Flagged o (Middle o led) middles) where
       gap-middle : (u x l : ℕ) → Gap (OverIn o) (In o led) u x l → Up middles x
       gap-middle u x l gap =
           let h = (beyond-inside o Below x l gap.under).0 in
@@ -79,31 +83,31 @@ module _ (o : Order) where
             lower-least = least-like (λ y (far, mem). (far, ((beyond-inside o Below x y far).1, mem))) (λ y (far, mem). (far, mem.1)) lower;
           }
 
+    pub no_step : (lowers : Flags) → Flagged o (Lower o led) lowers → ((x : ℕ) → x < o.total → Up lowers x → ⊥) → AnyStep o led → ⊥
+    no_step lowers tell none (u, l, step) =
+        none l step.lower-led.0 ((tell l step.lower-led.0).1 (step.lower-led.1, (u, (step.over, step.upper-not))))
+
     -- what is not led
-    module _ (unled : List Bool) (are : Unled led unled) where
-      unled-tells : (x : ℕ) → x < o.total → Decides (get_or unled x false) (In o led x → ⊥)
+    module _ (unled : Flags) (are : Unled led unled) where
+      unled-tells : (x : ℕ) → x < o.total → Decides (flag unled x) (In o led x → ⊥)
       unled-tells x h =
-          Decides-at (get_or unled x false) (not (get_or led x false)) (are x (inside x h))
-          (Decides-like (not (get_or led x false)) (λ none mem. none mem.1) (λ none up. none (h, up)) (Decides-not (get_or led x false) (itself (get_or led x false))))
+          Decides-at (flag unled x) (not (flag led x)) (are x (inside x h))
+          (Decides-like (not (flag led x)) (λ none mem. none mem.1) (λ none up. none (h, up)) (Decides-not (flag led x) (itself (flag led x))))
 
       -- above a request
       pub unled-above : (x y : ℕ) → Beyond o Above x y → (Up unled y → In o led y → ⊥) × ((In o led y → ⊥) → Up unled y)
       unled-above x y far = unled-tells y (beyond-inside o Above x y far).1
 
       -- the lower requests of steps
-      pub lowers-tell : (above lowers : List Bool) → Tells o Above unled above → ((k : ℕ) → k < 4096 → get_or lowers k false ≡ (get_or led k false && get_or above k false))
+      pub lowers-tell : (above lowers : Flags) → Tells o Above unled above → ((k : ℕ) → k < 4096 → flag lowers k ≡ (flag led k && flag above k))
           → Flagged o (Lower o led) lowers
       lowers-tell above lowers tells lowers-are x h =
-          Decides-at (get_or lowers x false) (get_or led x false && get_or above x false) (lowers-are x (inside x h))
-          (Decides-like (get_or led x false && get_or above x false) (λ (up, (y, (far, mem))). (up, (y, (far, (unled-above x y far).0 mem))))
+          Decides-at (flag lowers x) (flag led x && flag above x) (lowers-are x (inside x h))
+          (Decides-like (flag led x && flag above x) (λ (up, (y, (far, mem))). (up, (y, (far, (unled-above x y far).0 mem))))
           (λ (up, (y, (far, none))). (up, (y, (far, (unled-above x y far).1 none))))
-          (Decides-and (get_or led x false) (get_or above x false) (itself (get_or led x false)) (tells.each x h)))
+          (Decides-and (flag led x) (flag above x) (itself (flag led x)) (tells.each x h)))
 
-      module _ (lowers : List Bool) (tell : Flagged o (Lower o led) lowers) where
-        pub no_step : ((x : ℕ) → x < o.total → Up lowers x → ⊥) → AnyStep o led → ⊥
-        no_step none (u, l, step) =
-            none l step.lower-led.0 ((tell l step.lower-led.0).1 (step.lower-led.1, (u, (step.over, step.upper-not))))
-
+      module _ (lowers : Flags) (tell : Flagged o (Lower o led) lowers) where
         pub step-first : (u l : ℕ) → l < o.total → Least (Up lowers) l → FirstBeyond o Above l unled u → FirstStep (OverIn o) (In o led) u l
         step-first u l h (up, least) upper =
             record {
@@ -115,32 +119,32 @@ module _ (o : Order) where
             }
 
     -- the lowest hopeless requests
-    module _ (above unled low hopeless : List Bool) (tells-above : Tells o Above led above) (unled-are : Unled led unled) (low-are : Unled above low)
-        (hopeless-are : (k : ℕ) → k < 4096 → get_or hopeless k false ≡ (get_or unled k false && get_or low k false)) where
-      are : (x : ℕ) → x < o.total → get_or hopeless x false ≡ (not (get_or led x false) && not (get_or above x false))
+    module _ (above unled low hopeless : Flags) (tells-above : Tells o Above led above) (unled-are : Unled led unled) (low-are : Unled above low)
+        (hopeless-are : (k : ℕ) → k < 4096 → flag hopeless k ≡ (flag unled k && flag low k)) where
+      are : (x : ℕ) → x < o.total → flag hopeless x ≡ (not (flag led x) && not (flag above x))
       are x h = hopeless-are x (inside x h) ∙ ap₂ (λ p q. p && q) (unled-are x (inside x h)) (low-are x (inside x h))
 
-      hopeless-tells : (x : ℕ) → x < o.total → Decides (get_or hopeless x false) (Hopeless (OverIn o) (In o led) x)
+      hopeless-tells : (x : ℕ) → x < o.total → Decides (flag hopeless x) (Hopeless (OverIn o) (In o led) x)
       hopeless-tells x h =
-          Decides-at (get_or hopeless x false) (not (get_or led x false) && not (get_or above x false)) (are x h)
-          (Decides-like (not (get_or led x false) && not (get_or above x false))
+          Decides-at (flag hopeless x) (not (flag led x) && not (flag above x)) (are x h)
+          (Decides-like (not (flag led x) && not (flag above x))
           (λ (none, far_none) y over mem. ⊎_elim (λ (e : y ≡ x). none (subst (Up led) e mem.1)) (λ ne. far_none (y, ((over, ne), mem.1))) (cases_eq y x))
           (λ none. (λ up. none x ((plain o).itself x h) (h, up), λ (y, (far, up)). none y far.0 ((beyond-inside o Above x y far).1, up)))
-          (Decides-and (not (get_or led x false)) (not (get_or above x false)) (Decides-not (get_or led x false) (itself (get_or led x false)))
-          (Decides-not (get_or above x false) (tells-above.each x h))))
+          (Decides-and (not (flag led x)) (not (flag above x)) (Decides-not (flag led x) (itself (flag led x)))
+          (Decides-not (flag above x) (tells-above.each x h))))
 
       -- a request that is not hopeless has a led one at or above it
       hoped : (x : ℕ) → x < o.total → (Up hopeless x → ⊥) → (y : ℕ) × (OverIn o y x × In o led y)
-      hoped x h none = by (cases_Bool (get_or led x false)) (cases_Bool (get_or above x false))
+      hoped x h none = by (cases_Bool (flag led x)) (cases_Bool (flag above x))
         where
-          by : (get_or led x false ≡ true) ⊎ (get_or led x false ≡ false) → (get_or above x false ≡ true) ⊎ (get_or above x false ≡ false) → (y : ℕ) × (OverIn o y x × In o led y)
+          by : (flag led x ≡ true) ⊎ (flag led x ≡ false) → (flag above x ≡ true) ⊎ (flag above x ≡ false) → (y : ℕ) × (OverIn o y x × In o led y)
           by (inl up) _ = (x, ((plain o).itself x h, (h, up)))
           by (inr _) (inl far) = let (y, (over, up)) = (tells-above.each x h).0 far in (y, (over.0, ((beyond-inside o Above x y over).1, up)))
           by (inr a) (inr b) = absurd (none (are x h ∙ ap₂ (λ p q. not p && not q) a b))
 
-      pub counters-tell : (lows : List Bool) → Flagged o (Minimal (OverIn o) (In o hopeless)) lows → Flagged o (CounterFloor (OverIn o) (In o led)) lows
+      pub counters-tell : (lows : Flags) → Flagged o (Minimal (OverIn o) (In o hopeless)) lows → Flagged o (CounterFloor (OverIn o) (In o led)) lows
       counters-tell lows flagged x h =
-          Decides-like (get_or lows x false)
+          Decides-like (flag lows x)
           (λ (mem, none).
           record {
             hopeless = (hopeless-tells x h).0 mem.1;
@@ -152,9 +156,10 @@ module _ (o : Order) where
           ))
           (flagged x h)
 
--- the counter floors where the default overrides, and none where the lead effect does
-pub some-counters : (o : Order) (P : ℕ → Type 0) (xs : List Bool) → Flagged o P xs → Flagged o (λ x. (true ≡ true) × P x) xs
-some-counters o P xs flagged x h = Decides-like (get_or xs x false) (λ p. (refl, p)) (λ (_, p). p) (flagged x h)
-
-pub no-counters : (o : Order) (P : ℕ → Type 0) → Flagged o (λ x. (false ≡ true) × P x) (replicate 4096 false)
-no-counters o P x h = (λ up. absurd (false≢true (sym (all-down x) ∙ up)), λ (e, _). absurd (false≢true e))
+-- the first that a search over all requests finds is the first of the set on that side
+pub first-beyond : (o : Order) (side : Side) (x : ℕ) (members : Flags) (r : Option ℕ)
+    → MatchOption r ((k : ℕ) → 0 ≤ k → k < o.total → Beyond o side x k × Up members k → ⊥)
+    (λ i. (0 ≤ i) × (i < o.total) × (Beyond o side x i × Up members i) × ((k : ℕ) → 0 ≤ k → k < i → Beyond o side x k × Up members k → ⊥))
+    → MatchOption r ((y : ℕ) → Beyond o side x y → Up members y → ⊥) (FirstBeyond o side x members)
+first-beyond o side x members None none = λ y far up. none y (omega arith) (beyond-inside o side x y far).1 (far, up)
+first-beyond o side x members (Some i) (_, _, is, least) = (is, λ y lt mem. least y (omega arith) lt mem)

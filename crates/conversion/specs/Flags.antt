@@ -1,11 +1,16 @@
--- Rows of flags. Only inner functions cite this.
-use Rattle.std.specs.Prelude.{◌≡◌, ℕ, zero, suc, Bool, true, false, cond, List, [], ◌∷◌, ◌++◌, slice_index_or}
+-- A flag for each request. Only inner functions cite this.
+use Rattle.std.specs.Prelude.{◌≡◌, ℕ, Bool, true, false, List, slice_index_or}
+use Rattle.std.specs.List.{filter, range_with_len}
+use Rattle.conversion.specs.declared.flags.Flags.{Flags}
+
+-- The flag of request r.
+abbrev pub flag : Flags → ℕ → Bool
+flag flags r = slice_index_or flags.up r false
 
 -- Flag r is up.
-abbrev pub Up : List Bool → ℕ → Type 0
-Up xs r = slice_index_or xs r false ≡ true
+abbrev pub Up : Flags → ℕ → Type 0
+Up flags r = flag flags r ≡ true
 
 -- The numbers below k whose flag is up, by rising number.
-unfoldable pub raised : List Bool → ℕ → List ℕ
-raised xs zero = []
-raised xs (suc k) = cond (slice_index_or xs k false) (raised xs k ++ (k ∷ [])) (raised xs k)
+abbrev pub raised : Flags → ℕ → List ℕ
+raised flags k = filter (flag flags) (range_with_len 0 k)

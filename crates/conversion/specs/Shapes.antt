@@ -1,55 +1,52 @@
 -- What stands in the way of a list, and its floors, told from the flags of the led requests. Only inner functions cite this.
-use Rattle.std.specs.Prelude.{◌≡◌, ℕ, ◌<◌, Bool, true, false, cond, not, List, Ok, Err, Decides, Result, slice_index_or}
+use Rattle.std.specs.Prelude.{◌≡◌, ℕ, ◌<◌, Bool, true, false, cond, Ok, Err, Decides, Result}
 use Rattle.expressiveness.specs.Order.{CounterFloor, FirstGap, FirstStep, Gap as IsGap, LeadFloor, Least, Step as IsStep}
+use Rattle.conversion.specs.declared.flags.Flags.{Flags}
 use Rattle.conversion.specs.declared.floors.FloorFlags.{FloorFlags}
 use Rattle.conversion.specs.declared.floors.GapAt.{GapAt}
 use Rattle.conversion.specs.declared.floors.StepAt.{StepAt}
 use Rattle.conversion.specs.declared.order.Order.{Order}
-use Rattle.conversion.specs.declared.order.Side.{Side}
-use Rattle.conversion.specs.declared.order.Side.TheVariants.{Above, Below}
+use Rattle.conversion.specs.declared.side.Side.{Side}
+use Rattle.conversion.specs.declared.side.Side.TheVariants.{Above, Below}
 use Rattle.conversion.specs.declared.refusal.Unconverted.{Unconverted}
 use Rattle.conversion.specs.declared.refusal.Unconverted.TheVariants.{Misfit, FewWorkBytes, Gap, Step, FewSlots}
-use Rattle.conversion.specs.Flags.{Up}
+use Rattle.conversion.specs.Flags.{Up, flag}
 use Rattle.conversion.specs.Beyond.{Beyond, OverIn, SomeBeyond}
 
 -- Request r is of the set.
-abbrev pub In : Order → List Bool → ℕ → Type 0
+abbrev pub In : Order → Flags → ℕ → Type 0
 In o xs r = (r < o.total) × Up xs r
 
 -- The first of a set on one side of x.
-abbrev pub FirstBeyond : Order → Side → ℕ → List Bool → ℕ → Type 0
+abbrev pub FirstBeyond : Order → Side → ℕ → Flags → ℕ → Type 0
 FirstBeyond o side x members = Least (λ y. Beyond o side x y × Up members y)
 
 -- The flags tell which requests have the property P.
-abbrev pub Flagged : Order → (ℕ → Type 0) → List Bool → Type 0
-Flagged o P xs = (x : ℕ) → x < o.total → Decides (slice_index_or xs x false) (P x)
-
--- The flags of what is not led.
-abbrev pub Unled : List Bool → List Bool → Type 0
-Unled led unled = (k : ℕ) → k < 4096 → slice_index_or unled k false ≡ not (slice_index_or led k false)
+abbrev pub Flagged : Order → (ℕ → Type 0) → Flags → Type 0
+Flagged o P xs = (x : ℕ) → x < o.total → Decides (flag xs x) (P x)
 
 -- x is the middle of a gap.
-abbrev pub Middle : Order → List Bool → ℕ → Type 0
+abbrev pub Middle : Order → Flags → ℕ → Type 0
 Middle o led x = (Up led x → ⊥) × (SomeBeyond o Above led x × SomeBeyond o Below led x)
 
 -- x is the lower request of a step.
-abbrev pub Lower : Order → List Bool → ℕ → Type 0
+abbrev pub Lower : Order → Flags → ℕ → Type 0
 Lower o led x = Up led x × ((y : ℕ) × (Beyond o Above x y × (In o led y → ⊥)))
 
-abbrev pub AnyGap : Order → List Bool → Type 0
+abbrev pub AnyGap : Order → Flags → Type 0
 AnyGap o led = (upper : ℕ) × (middle : ℕ) × (lower : ℕ) × IsGap (OverIn o) (In o led) upper middle lower
 
-abbrev pub AnyStep : Order → List Bool → Type 0
+abbrev pub AnyStep : Order → Flags → Type 0
 AnyStep o led = (upper : ℕ) × (lower : ℕ) × IsStep (OverIn o) (In o led) upper lower
 
-abbrev pub FirstGapAt : Order → List Bool → GapAt → Type 0
+abbrev pub FirstGapAt : Order → Flags → GapAt → Type 0
 FirstGapAt o led g = FirstGap (OverIn o) (In o led) g.upper g.middle g.lower
 
-abbrev pub FirstStepAt : Order → List Bool → StepAt → Type 0
+abbrev pub FirstStepAt : Order → Flags → StepAt → Type 0
 FirstStepAt o led s = FirstStep (OverIn o) (In o led) s.upper s.lower
 
 -- Where the default overrides or not: the floors, and that nothing stands in the way; or the first gap, or the first step.
-abbrev pub Shaped : Order → Bool → List Bool → Result FloorFlags Unconverted → Type 0
+abbrev pub Shaped : Order → Bool → Flags → Result FloorFlags Unconverted → Type 0
 Shaped o w led (Ok floors) =
     (cond w (AnyGap o led) (AnyStep o led) → ⊥)
     × (Flagged o (LeadFloor (OverIn o) (In o led)) floors.lead × Flagged o (λ x. (w ≡ true) × CounterFloor (OverIn o) (In o led) x) floors.counter)

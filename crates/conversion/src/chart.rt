@@ -1,10 +1,9 @@
 // The chart of a policy in the work bytes, and the requests that are led in it.
 ghost use Rattle.std.specs.Prelude.{◌≡◌, ◌≤◌, length};
-ghost use Rattle.rules.specs.Filled.{filled};
-ghost use Rattle.conversion.specs.Charts.{BytesAre, byte_for, chart_of};
+ghost use Rattle.conversion.specs.Charts.{BytesAre, chart_of};
 ghost use Rattle.conversion.specs.Converts.{byte_of};
 
-use crate::flags::{Flags, MOST};
+use crate::flags::Flags;
 use policies::Policy;
 use rules::Effect;
 
@@ -18,35 +17,21 @@ fn byte_of(effect: Effect) -> u8
     }
 }
 
-fn byte_for(decision: Option<Effect>) -> u8
-    ensures { result ≡ byte_for decision }
+// Writes what a policy decides, a byte for each of its requests.
+pub(crate) fn chart<P: Policy>(policy: &P, work: &mut [u8])
+    requires { length work.old ≡ (P.meaning policy.now).requests }
+    ensures { work.new ≡ chart_of (P.meaning policy.now) (length work.old) }
 {
-    match decision {
-        Some(effect) => byte_of(effect),
-        None => 0,
-    }
-}
-
-// Writes what a policy decides, a byte for each request.
-pub(crate) fn chart<P: Policy>(policy: &P, total: usize, work: &mut [u8])
-    requires all { total ≡ (P.meaning policy.now).requests }
-    requires room { total ≤ length work.old }
-    ensures { work.new ≡ filled (chart_of (P.meaning policy.now) total) work.old }
-{
-    for r in 0..total {
-        work[r] = byte_for(policy.decide(r));
+    for (r, byte) in work.iter_mut().enumerate() {
+        *byte = policy.decide(r).map_or(0, byte_of);
     }
 }
 
 // The requests that have an effect in a chart.
-pub(crate) fn led_in(work: &[u8], total: usize, effect: Effect) -> Flags
-    requires { (total ≤ 4096) × (total ≤ length work.now) }
-    ensures { BytesAre (byte_of effect) work.now total result }
+pub(crate) fn led_in(chart: &[u8], effect: Effect) -> Flags
+    requires { length chart.now ≤ 4096 }
+    ensures { BytesAre (byte_of effect) chart.now (length chart.now) result }
 {
     let byte = byte_of(effect);
-    let mut led = [false; MOST];
-    for r in 0..total {
-        led[r] = work[r] == byte;
-    }
-    led
+    Flags::of(|r| chart.get(r) == Some(&byte))
 }

@@ -3,7 +3,8 @@ ghost use Rattle.std.specs.Prelude.{◌≡◌, ◌<◌, Decides, MatchOption};
 ghost use Rattle.rules.specs.Requests.{request_at};
 ghost use Rattle.conversion.specs.Beyond.{Beyond, IsOrder, OverIn};
 
-use crate::order::{Order, Side};
+use crate::order::Order;
+use crate::side::Side;
 use ladders::{Ladder, LadderRows};
 use rules::Request;
 
@@ -46,10 +47,7 @@ impl Order {
         requires { (x < self.now.total) × (y < self.now.total) }
         ensures { Decides result (Beyond self.now side x y) }
     {
-        x != y
-            && match side {
-                Side::Above => self.is_over(y, x),
-                Side::Below => self.is_over(x, y),
-            }
+        let (upper, lower) = side.turned(x, y);
+        upper != lower && self.is_over(upper, lower)
     }
 }

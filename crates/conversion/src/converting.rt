@@ -5,7 +5,6 @@ ghost use Rattle.conversion.specs.Worked.{WorkedCases};
 
 use crate::chart::{chart, led_in};
 use crate::floors::FloorFlags;
-use crate::listing::count;
 use crate::order::Order;
 use crate::refusal::Unconverted;
 use ladders::Ladder;
@@ -20,14 +19,9 @@ fn fitting<P: Policy, L: Ladder>(
 ) -> Result<Order, Unconverted>
     ensures { Fitted (L.posts ladder.now) (L.at_least ladder.now) conditions (P.meaning policy.now) result }
 {
-    match Order::of(ladder, conditions) {
-        Some(order) => if order.total == policy.requests() {
-            Ok(order)
-        } else {
-            Err(Unconverted::Misfit)
-        },
-        None => Err(Unconverted::Misfit),
-    }
+    Order::of(ladder, conditions)
+        .filter(|order| order.total == policy.requests())
+        .ok_or(Unconverted::Misfit)
 }
 
 impl Order {
@@ -40,21 +34,25 @@ impl Order {
     ) -> Result<(usize, usize), Unconverted>
         ensures { Listed self.now model floors.now slots.old result slots.new }
     {
-        let leads = count(&floors.lead, self.total);
-        let counters = count(&floors.counter, self.total);
-        if slots.len() < leads + counters {
-            return Err(Unconverted::FewSlots {
-                rules: leads + counters,
-            });
+        let leads = self.count(&floors.lead);
+        let counters = self.count(&floors.counter);
+        let rules = leads + counters;
+        if slots.len() < rules {
+            return Err(Unconverted::FewSlots { rules });
         }
-        let next = self.put_rules(model.lead_effect(), &floors.lead, 0, slots);
-        self.put_rules(model.default_effect(), &floors.counter, next, slots);
+        self.put_rules(model.lead_effect(), &floors.lead, &mut slots[..leads]);
+        self.put_rules(
+            model.default_effect(),
+            &floors.counter,
+            &mut slots[leads..rules],
+        );
         Ok((leads, counters))
     }
 }
 
 // Converts a policy into a list of a model, on a ladder and with so many conditions. The work bytes are lent for a chart of the policy, and the
 // slots for the rules.
+#[tactic(auto, using(crate::proofs::Cases::worked_cases))]
 pub fn convert<P: Policy, L: Ladder>(
     policy: &P,
     ladder: &L,
@@ -72,8 +70,9 @@ pub fn convert<P: Policy, L: Ladder>(
             requests: order.total,
         });
     }
-    chart(policy, order.total, work);
-    let led = led_in(work, order.total, model.lead_effect());
+    let bytes = &mut work[..order.total];
+    chart(policy, bytes);
+    let led = led_in(bytes, model.lead_effect());
     let floors = order.floors(model, &led)?;
     order.list(model, &floors, slots)
 }

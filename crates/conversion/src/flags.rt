@@ -1,44 +1,70 @@
 // A flag for each request.
-ghost use Rattle.std.specs.Prelude.{◌≡◌, ℕ, ◌<◌, ◌≤◌, false, not, ◌&&◌, MatchOption, slice_index_or};
-ghost use Rattle.expressiveness.specs.Order.{Least};
-ghost use Rattle.conversion.specs.Flags.{Up};
+ghost use Rattle.std.specs.Prelude.{◌≡◌, ℕ, ◌<◌, false, not, ◌&&◌, ◌||◌, ◌==◌};
+ghost use Rattle.conversion.specs.Flags.{flag};
+
+use std::array;
+use std::ops::{BitAnd, Not};
 
 // The most requests that there are.
-pub(crate) const MOST: usize = 4096;
+const MOST: usize = 4096;
 
-pub(crate) type Flags = [bool; MOST];
+#[derive(Clone, Copy)]
+pub(crate) struct Flags {
+    up: [bool; MOST],
+}
+
+impl Flags {
+    // No flag is up.
+    pub(crate) fn none() -> Flags
+        ensures { (r : ℕ) → flag result r ≡ false }
+    {
+        Flags { up: [false; MOST] }
+    }
+
+    // The flags that a test puts up.
+    pub(crate) fn of<F: Fn(usize) -> bool>(test: F) -> Flags
+        requires { F.IsAlwaysCallable test }
+        ensures { (r : ℕ) → r < 4096 → F.post test r (flag result r) }
+    {
+        Flags {
+            up: array::from_fn(test),
+        }
+    }
+
+    // Whether a flag is up; one past them all is not.
+    pub(crate) fn has(&self, r: usize) -> bool
+        ensures { result ≡ flag self.now r }
+    {
+        self.up.get(r) == Some(&true)
+    }
+
+    // Puts one flag up.
+    pub(crate) fn raise(&mut self, r: usize)
+        requires { r < 4096 }
+        ensures { (k : ℕ) → flag self.new k ≡ (flag self.old k || (k == r)) }
+    {
+        self.up[r] = true;
+    }
+}
 
 // The flags that are up in both.
-pub(crate) fn both(a: &Flags, b: &Flags) -> Flags
-    ensures { (k : ℕ) → k < 4096 → slice_index_or result k false ≡ (slice_index_or a.now k false && slice_index_or b.now k false) }
-{
-    let mut r = [false; MOST];
-    for k in 0..MOST {
-        r[k] = a[k] && b[k];
+impl BitAnd for Flags {
+    type Output = Flags;
+
+    ghost bitand_gives = { λ a b both. (r : ℕ) → r < 4096 → flag both r ≡ (flag a r && flag b r) };
+
+    fn bitand(self, other: Flags) -> Flags {
+        Flags::of(|r| self.has(r) & other.has(r))
     }
-    r
 }
 
 // The flags that are not up.
-pub(crate) fn opposite(a: &Flags) -> Flags
-    ensures { (k : ℕ) → k < 4096 → slice_index_or result k false ≡ not (slice_index_or a.now k false) }
-{
-    let mut r = [false; MOST];
-    for k in 0..MOST {
-        r[k] = !a[k];
-    }
-    r
-}
+impl Not for Flags {
+    type Output = Flags;
 
-// The first flag that is up, of so many.
-pub(crate) fn first_up(flags: &Flags, total: usize) -> Option<usize>
-    requires { total ≤ 4096 }
-    ensures { MatchOption result ((x : ℕ) → x < total → Up flags.now x → ⊥) (λ x. (x < total) × Least (Up flags.now) x) }
-{
-    for x in 0..total {
-        if flags[x] {
-            return Some(x);
-        }
+    ghost not_gives = { λ a opposite. (r : ℕ) → r < 4096 → flag opposite r ≡ not (flag a r) };
+
+    fn not(self) -> Flags {
+        Flags::of(|r| !self.has(r))
     }
-    None
 }

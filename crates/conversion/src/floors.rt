@@ -1,15 +1,17 @@
 // The floors of the list that decides as a policy does, or what stands in its way, from the requests that are led.
-ghost use Rattle.std.specs.Prelude.{ℕ, ◌<◌, true, false, MatchOption};
-ghost use Rattle.expressiveness.specs.Order.{CounterFloor, Minimal};
+ghost use Rattle.std.specs.Prelude.{◌≡◌, ℕ, ◌<◌, true, false, MatchOption};
+ghost use Rattle.expressiveness.specs.Order.{CounterFloor, Least, Minimal};
 ghost use Rattle.rules.specs.Models.{default_overrides};
-ghost use Rattle.conversion.specs.declared.order.Side.TheVariants.{Above, Below};
+ghost use Rattle.conversion.specs.declared.side.Side.TheVariants.{Above, Below};
+ghost use Rattle.conversion.specs.declared.refusal.Unconverted.TheVariants.{Gap, Step};
 ghost use Rattle.conversion.specs.Flags.{Up};
 ghost use Rattle.conversion.specs.Beyond.{Beyond, OverIn, Tells};
-ghost use Rattle.conversion.specs.Shapes.{AnyGap, AnyStep, FirstBeyond, FirstGapAt, FirstStepAt, Flagged, In, Lower, Middle, Shaped, Unled};
+ghost use Rattle.conversion.specs.Shapes.{AnyGap, AnyStep, FirstBeyond, FirstGapAt, FirstStepAt, Flagged, In, Lower, Middle, Shaped};
 
-use crate::flags::{Flags, MOST, both, first_up, opposite};
-use crate::order::{Order, Side};
+use crate::flags::Flags;
+use crate::order::Order;
 use crate::refusal::Unconverted;
+use crate::side::Side;
 use rules::Model;
 
 // The floors of the lead rules and of the counter rules, a flag for each request.
@@ -34,18 +36,47 @@ struct StepAt {
     lower: usize,
 }
 
+impl From<GapAt> for Unconverted {
+    ghost from_gives = { λ gap refusal. refusal ≡ Gap gap.upper gap.middle gap.lower };
+
+    fn from(gap: GapAt) -> Unconverted {
+        let GapAt {
+            upper,
+            middle,
+            lower,
+        } = gap;
+        Unconverted::Gap {
+            upper,
+            middle,
+            lower,
+        }
+    }
+}
+
+impl From<StepAt> for Unconverted {
+    ghost from_gives = { λ step refusal. refusal ≡ Step step.upper step.lower };
+
+    fn from(step: StepAt) -> Unconverted {
+        let StepAt { upper, lower } = step;
+        Unconverted::Step { upper, lower }
+    }
+}
+
+// What lies above and below the led requests is found once and handed on, as `Tells` says: no ghost field can hold that, since it names witnesses.
 impl Order {
+    // The first request whose flag is up.
+    fn first_up(&self, flags: &Flags) -> Option<usize>
+        ensures { MatchOption result ((x : ℕ) → x < self.now.total → Up flags.now x → ⊥) (λ x. (x < self.now.total) × Least (Up flags.now) x) }
+    {
+        (0..self.total).find(|x| flags.has(*x))
+    }
+
     // The first of a set on one side of a request.
     fn first_beyond(&self, side: Side, x: usize, members: &Flags) -> Option<usize>
         requires { x < self.now.total }
         ensures { MatchOption result ((y : ℕ) → Beyond self.now side x y → Up members.now y → ⊥) (FirstBeyond self.now side x members.now) }
     {
-        for y in 0..self.total {
-            if members[y] && self.is_beyond(side, x, y) {
-                return Some(y);
-            }
-        }
-        None
+        (0..self.total).find(|y| members.has(*y) && self.is_beyond(side, x, *y))
     }
 
     // The lowest of a set, which are those with none of it below them.
@@ -53,7 +84,7 @@ impl Order {
         requires { Tells self.now Below members.now below.now }
         ensures { Flagged self.now (Minimal (OverIn self.now) (In self.now members.now)) result }
     {
-        both(members, &opposite(below))
+        *members & !*below
     }
 
     fn lowest(&self, members: &Flags) -> Flags
@@ -68,7 +99,7 @@ impl Order {
         requires below { Tells self.now Below led.now below.now }
         ensures { Flagged self.now (Middle self.now led.now) result }
     {
-        both(&opposite(led), &both(above, below))
+        !*led & (*above & *below)
     }
 
     // The first gap, where the middles are known.
@@ -76,7 +107,7 @@ impl Order {
         requires { Flagged self.now (Middle self.now led.now) middles.now }
         ensures { MatchOption result (AnyGap self.now led.now → ⊥) (FirstGapAt self.now led.now) }
     {
-        let middle = first_up(middles, self.total)?;
+        let middle = self.first_up(middles)?;
         let upper = self.first_beyond(Side::Above, middle, led)?;
         let lower = self.first_beyond(Side::Below, middle, led)?;
         Some(GapAt {
@@ -87,20 +118,18 @@ impl Order {
     }
 
     // The lower requests of steps: led, with one above that is not.
-    fn lowers(&self, led: &Flags, unled: &Flags) -> Flags
-        requires { Unled led.now unled.now }
+    fn lowers(&self, led: &Flags) -> Flags
         ensures { Flagged self.now (Lower self.now led.now) result }
     {
-        both(led, &self.beyond(Side::Above, unled))
+        *led & self.beyond(Side::Above, &!*led)
     }
 
     // The first step.
     fn first_step(&self, led: &Flags) -> Option<StepAt>
         ensures { MatchOption result (AnyStep self.now led.now → ⊥) (FirstStepAt self.now led.now) }
     {
-        let unled = opposite(led);
-        let lower = first_up(&self.lowers(led, &unled), self.total)?;
-        let upper = self.first_beyond(Side::Above, lower, &unled)?;
+        let lower = self.first_up(&self.lowers(led))?;
+        let upper = self.first_beyond(Side::Above, lower, &!*led)?;
         Some(StepAt { upper, lower })
     }
 
@@ -109,7 +138,7 @@ impl Order {
         requires { Tells self.now Above led.now above.now }
         ensures { Flagged self.now (CounterFloor (OverIn self.now) (In self.now led.now)) result }
     {
-        self.lowest(&both(&opposite(led), &opposite(above)))
+        self.lowest(&(!*led & !*above))
     }
 
     // The floors where the default overrides, or the first gap.
@@ -119,33 +148,26 @@ impl Order {
         let above = self.beyond(Side::Above, led);
         let below = self.beyond(Side::Below, led);
         let middles = self.middles(led, &above, &below);
-        match self.first_gap(led, &middles) {
-            Some(gap) => Err(Unconverted::Gap {
-                upper: gap.upper,
-                middle: gap.middle,
-                lower: gap.lower,
-            }),
-            None => Ok(FloorFlags {
-                lead: self.without(led, &below),
-                counter: self.lowest_hopeless(led, &above),
-            }),
+        if let Some(gap) = self.first_gap(led, &middles) {
+            return Err(gap.into());
         }
+        Ok(FloorFlags {
+            lead: self.without(led, &below),
+            counter: self.lowest_hopeless(led, &above),
+        })
     }
 
     // The floors where the lead effect overrides, or the first step.
     fn upward_floors(&self, led: &Flags) -> Result<FloorFlags, Unconverted>
         ensures { Shaped self.now false led.now result }
     {
-        match self.first_step(led) {
-            Some(step) => Err(Unconverted::Step {
-                upper: step.upper,
-                lower: step.lower,
-            }),
-            None => Ok(FloorFlags {
-                lead: self.lowest(led),
-                counter: [false; MOST],
-            }),
+        if let Some(step) = self.first_step(led) {
+            return Err(step.into());
         }
+        Ok(FloorFlags {
+            lead: self.lowest(led),
+            counter: Flags::none(),
+        })
     }
 
     // The floors of the defined list of a model, or what stands in its way.

@@ -10,6 +10,7 @@ mod floors;
 mod listing;
 mod order;
 mod refusal;
+mod side;
 
 pub use converting::convert;
 pub use refusal::Unconverted;

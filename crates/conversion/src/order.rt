@@ -15,10 +15,3 @@ pub(crate) struct Order {
     ghost most: { total ≤ 4096 },
     ghost whole: { total ≡ request_total (row_posts ladder.rows) conditions },
 }
-
-// Which side of a request is looked at.
-#[derive(Clone, Copy)]
-pub(crate) enum Side {
-    Above,
-    Below,
-}

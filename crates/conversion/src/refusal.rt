@@ -1,6 +1,8 @@
 // Why a policy is not converted.
-ghost use Rattle.std.specs.Prelude.{◌≡◌, length, take};
+ghost use Rattle.std.specs.Prelude.{◌≡◌, ◌≤◌, length};
 ghost use Rattle.conversion.specs.Refusals.{number_of, figures_of};
+
+use arrayvec::ArrayVec;
 
 #[derive(Clone, Copy, Debug, PartialEq, Eq)]
 pub enum Unconverted {
@@ -41,21 +43,28 @@ impl Unconverted {
         }
     }
 
-    // Its figures, and how many they are: the work bytes needed; the upper, middle and lower request; the upper and the lower; the rules.
-    pub fn figures(&self) -> ([usize; 3], usize)
-        ensures figures { take result.1 result.0 ≡ figures_of self.now }
-        ensures count { result.1 ≡ length (figures_of self.now) }
+    // Its figures: the work bytes needed; the upper, middle and lower request; the upper and the lower; the rules.
+    pub fn figures(&self) -> ArrayVec<usize, 3>
+        ensures { result.items ≡ figures_of self.now }
     {
         match *self {
-            Unconverted::Misfit => ([0; 3], 0),
-            Unconverted::FewWorkBytes { requests } => ([requests, 0, 0], 1),
+            Unconverted::Misfit => row(&[]),
+            Unconverted::FewWorkBytes { requests } => row(&[requests]),
             Unconverted::Gap {
                 upper,
                 middle,
                 lower,
-            } => ([upper, middle, lower], 3),
-            Unconverted::Step { upper, lower } => ([upper, lower, 0], 2),
-            Unconverted::FewSlots { rules } => ([rules, 0, 0], 1),
+            } => row(&[upper, middle, lower]),
+            Unconverted::Step { upper, lower } => row(&[upper, lower]),
+            Unconverted::FewSlots { rules } => row(&[rules]),
         }
     }
+}
+
+// At most three figures in a row.
+fn row(figures: &[usize]) -> ArrayVec<usize, 3>
+    requires { length figures.now ≤ 3 }
+    ensures { result.items ≡ figures.now }
+{
+    ArrayVec::try_from(figures).unwrap()
 }

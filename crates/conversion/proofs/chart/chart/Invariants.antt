@@ -1,7 +1,6 @@
-use Rattle.std.proofs.Common.{◌≡◌}
-use Rattle.rules.specs.Filled.{filled}
-use Rattle.conversion.specs.Charts.{chart_of}
+use Rattle.std.proofs.Common.{◌≡◌, ℕ, ◌<◌, get_or}
+use Rattle.conversion.specs.Converts.{byte_of}
 use Rattle.conversion.proofs.chart.chart.Given as goal
 
 abbrev pub invariant-loop-r : goal.invariant-loop-r
-invariant-loop-r g l = l.work ≡ filled (chart_of (g.P.Policy.meaning l.policy) l.r) l.initial.work
+invariant-loop-r g l = (k : ℕ) → k < l.r → get_or l.work k 0 ≡ byte_of ((g.P.Policy.meaning l.policy).effect k)

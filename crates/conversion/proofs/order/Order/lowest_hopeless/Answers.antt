@@ -3,5 +3,5 @@ use Rattle.conversion.proofs.order.Order.lowest_hopeless.Goals as goal
 
 pub returns : goal.returns
 returns c =
-    counters-tell c.args.self.now c.args.led.now c.args.above.now c.opposite.result c.opposite-2.result c.both.result c.requires c.opposite.ensures
-    c.opposite-2.ensures c.both.ensures c.lowest.result c.lowest.ensures
+    counters-tell c.args.self.now c.args.led.now c.args.above.now c.not.result c.not-2.result c.bitand.result c.requires c.not.ensures
+    c.not-2.ensures c.bitand.ensures c.lowest.result c.lowest.ensures

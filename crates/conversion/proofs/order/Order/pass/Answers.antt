@@ -1,22 +1,29 @@
-use Rattle.std.proofs.Common.{sym, ◌∙◌, arith}
-use Rattle.conversion.proofs.Passes.{passed-more, passed_none, passed-skip, upper-inside}
+use Rattle.std.proofs.Common.{sym, ◌∙◌, inl, inr}
+use Rattle.std.proofs.lemmas.Bool.{false≢true}
+use Rattle.conversion.proofs.Passes.{above-inside, passed-more, passed-skip, passed-stay}
 use Rattle.conversion.proofs.order.Order.pass.Goals as goal
-use Rattle.conversion.proofs.order.Order.pass.Goals.{in-Some, in_default}
+use Rattle.conversion.proofs.order.Order.pass.Goals.{in-Some+then-has, then-has-via-then-has, then-has-via-else-has+then-has-2, in-Some+else-has+else-has-2, in_default}
 
-pub hand_on-requires : goal.hand_on-requires
-hand_on-requires c =
-    let o = c.args.self.now in
-    let inside = upper-inside o c.args.link c.requires c.in-Some.upper c.loop-lower.lower c.loop-lower-test.true (sym c.in-Some.ensures) in
-    (omega (arith, o.most), omega (arith, o.most))
-
-pub loop-lower-init : goal.loop-lower-init
-loop-lower-init c = passed_none c.told-marks
+pub raise-requires : goal.raise-requires
+raise-requires g c =
+    let up = c.requires.up c.loop-lower.lower c.in-Some.upper c.loop-lower-test.true c.in-Some.ensures in
+    rw c.turned-from.ensures (above-inside c.args.self.now c.args.side c.in-Some.upper c.loop-lower.lower up)
 
 pub loop-lower-preserved : goal.loop-lower-preserved
-loop-lower-preserved c =
-    elim c.match-upper_of.branch [
-      | in-Some w ↦
-          rw (w.marks-is ∙ w.hand_on.ensures)
-          (passed-more c.loop-lower.invariant c.requires c.loop-lower-test.true w.in-Some.upper (sym w.in-Some.ensures))
-      | in_default w ↦ rw w.marks-is (passed-skip c.loop-lower.invariant (sym w.in_default.ensures))
+loop-lower-preserved g c =
+    elim c.match-step.branch [
+      | in-Some+then-has w ↦
+          rw w.marks-is
+          (passed-more c.loop-lower.invariant w.in-Some.upper w.in-Some.ensures w.turned-from.result w.turned-from.ensures
+          (c.requires.up c.loop-lower.lower w.in-Some.upper c.loop-lower-test.true w.in-Some.ensures)
+          (elim w.then-has.branch [
+            | then-has-via-then-has v ↦ inl (sym w.has.ensures ∙ v.if-has.true)
+            | then-has-via-else-has+then-has-2 v ↦ inr (sym v.has-else-has.ensures ∙ v.if-has-2.true)
+          ])
+          w.raise.ensures)
+      | in-Some+else-has+else-has-2 w ↦
+          rw w.marks-is
+          (passed-stay c.loop-lower.invariant w.in-Some.upper w.in-Some.ensures w.turned-from.result w.turned-from.ensures
+          (λ m. false≢true (sym w.if-has.false ∙ w.has.ensures ∙ m)) (λ m. false≢true (sym w.if-has-2.false ∙ w.has-else-has.ensures ∙ m)))
+      | in_default w ↦ rw w.marks-is (passed-skip c.loop-lower.invariant w.in_default.ensures)
     ]

@@ -3,4 +3,4 @@ use Rattle.conversion.proofs.order.Order.without.Goals as goal
 
 pub returns : goal.returns
 returns c =
-    lowest-tells c.args.self.now c.args.members.now c.args.below.now c.opposite.result c.both.result c.requires c.opposite.ensures c.both.ensures
+    lowest-tells c.args.self.now c.args.members.now c.args.below.now c.not.result c.bitand.result c.requires c.not.ensures c.bitand.ensures
