@@ -7,7 +7,7 @@ ghost use Rattle.conversion.specs.Beyond.{Condition, OverIn, Passed, Posts, Tell
 use crate::flags::Flags;
 use crate::order::Order;
 use crate::side::Side;
-use ladders::{Ladder, has};
+use ladders::{Ladder, MOST_POSTS, has};
 
 impl Order {
     // The request with one condition more, if it lacks it.
@@ -64,8 +64,8 @@ impl Order {
                 &mut marks,
             );
         }
-        for p in 0..8 {
-            for q in 0..8 {
+        for p in 0..MOST_POSTS {
+            for q in 0..MOST_POSTS {
                 if p != q && self.ladder.at_least(p, q) {
                     self.pass(
                         |lower| self.with_post(p, q, lower),

@@ -2,15 +2,13 @@
 ghost use Rattle.std.specs.Prelude.{◌≡◌, ℕ, ◌<◌, false, not, ◌&&◌, ◌||◌, ◌==◌};
 ghost use Rattle.conversion.specs.Flags.{flag};
 
+use rules::MOST_REQUESTS;
 use std::array;
 use std::ops::{BitAnd, Not};
 
-// The most requests that there are.
-const MOST: usize = 4096;
-
 #[derive(Clone, Copy)]
 pub(crate) struct Flags {
-    up: [bool; MOST],
+    up: [bool; MOST_REQUESTS],
 }
 
 impl Flags {
@@ -18,7 +16,9 @@ impl Flags {
     pub(crate) fn none() -> Flags
         ensures { (r : ℕ) → flag result r ≡ false }
     {
-        Flags { up: [false; MOST] }
+        Flags {
+            up: [false; MOST_REQUESTS],
+        }
     }
 
     // The flags that a test puts up.

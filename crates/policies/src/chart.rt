@@ -2,11 +2,7 @@
 ghost use Rattle.policies.specs.Policies.{chart_meaning};
 
 use crate::policy::Policy;
-use ladders::MOST_POSTS;
-use rules::{Effect, MOST_CONDITIONS};
-
-// The most requests that a chart has: those of eight posts and nine conditions, 4096.
-const MOST: usize = MOST_POSTS << MOST_CONDITIONS;
+use rules::{Effect, MOST_REQUESTS};
 
 // Byte 0 denies its request, and any other permits it; bytes after the first 4096 do not count.
 #[derive(Clone, Copy)]
@@ -18,7 +14,7 @@ impl<'a> Policy for Chart<'a> {
     ghost meaning = { λ p. chart_meaning p.bytes.now };
 
     fn requests(&self) -> usize {
-        self.bytes.len().min(MOST)
+        self.bytes.len().min(MOST_REQUESTS)
     }
 
     fn decide(&self, request: usize) -> Option<Effect> {

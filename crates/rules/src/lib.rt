@@ -6,7 +6,7 @@ mod request;
 mod rule;
 
 pub use letter::{Letter, Model};
-pub use request::{MOST_CONDITIONS, Request};
+pub use request::{MOST_CONDITIONS, MOST_REQUESTS, Request};
 pub use rule::{Effect, Rule};
 
 #[cfg(test)]

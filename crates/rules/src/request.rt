@@ -7,6 +7,9 @@ use ladders::{Ladder, MOST_POSTS};
 // The most conditions that there are.
 pub const MOST_CONDITIONS: u8 = 9;
 
+// The most requests that there are: those of eight posts and nine conditions, 4096.
+pub const MOST_REQUESTS: usize = MOST_POSTS << MOST_CONDITIONS;
+
 // The conditions are lettered a to i; condition a is bit 0 of the set.
 #[derive(Clone, Copy, Debug, PartialEq, Eq)]
 pub struct Request {

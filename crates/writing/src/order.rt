@@ -5,9 +5,9 @@ ghost use Rattle.rulefile.specs.Items.{item};
 ghost use Rattle.writing.specs.Written.{floor_item, post_item, condition_item, written_items};
 ghost use Rattle.writing.specs.Steps.{items_left};
 
-use ladders::has;
+use ladders::{MOST_POSTS, has};
 use rulefile::{Item, Name};
-use rules::Rule;
+use rules::{MOST_CONDITIONS, Rule};
 use std::ops::Range;
 
 fn plain(name: Name) -> Item
@@ -61,8 +61,8 @@ impl<'a> Items<'a> {
         Items {
             rule,
             floor: floor_item(rule),
-            posts: 0..8,
-            conditions: 0..9,
+            posts: 0..MOST_POSTS as u8,
+            conditions: 0..MOST_CONDITIONS,
         }
     }
 }

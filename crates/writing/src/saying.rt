@@ -8,7 +8,7 @@ ghost use Rattle.writing.specs.Steps.{Below, Apart, InRange, NamesOnce, Allowed,
 
 use ladders::{Ladder, has};
 use rulefile::Grammar;
-use rules::{Effect, Letter, Rule};
+use rules::{Effect, Letter, MOST_CONDITIONS, Rule};
 
 // A grammar whose conditions and posts all have a letter or a digit, and that has a post.
 #[derive(Clone, Copy)]
@@ -22,7 +22,7 @@ impl SmallGrammar {
     pub(crate) fn of<L: Ladder>(letter: Letter, conditions: u8, ladder: &L) -> Option<SmallGrammar>
         ensures { MatchOption result (9 < conditions) (λ g. g.grammar ≡ grammar letter conditions (L.posts ladder.now)) }
     {
-        if conditions > 9 {
+        if conditions > MOST_CONDITIONS {
             return None;
         }
         Some(SmallGrammar {
@@ -89,6 +89,6 @@ fn is_allowed(rule: &Rule, letter: Letter) -> bool
 {
     match letter {
         Letter::Guarded => rule.effect == Effect::Permit,
-        Letter::Model(_) => rule.barred == 0 && rule.barred_posts == 0,
+        Letter::Model(_) => rule.bars_nothing(),
     }
 }

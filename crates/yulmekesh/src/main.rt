@@ -2,14 +2,14 @@
 #![tactic(auto)]
 
 use report::tidy;
-use rules::{Effect, Rule};
+use rules::{Effect, MOST_REQUESTS, Rule};
 use std::io::{Read, Write};
 
 // One byte more than an input may have, so that a longer one is seen to be.
 const MOST: u64 = 32769;
 
-// How many rules a list may have.
-const SLOTS: usize = 4096;
+// How many rules a list may have: as many as there are requests.
+const SLOTS: usize = MOST_REQUESTS;
 
 // How many bytes a text may have.
 const ROOM: usize = 65536;

@@ -5,6 +5,12 @@ pub returns-in_err-middle : goal.returns-in_err-middle
 returns-in_err-middle c =
     rw c.from_residual.ensures (no_gap c.args.self.now c.args.led.now c.args.middles.now c.requires c.in_err-middle.ensures)
 
+pub returns-in_err-upper : goal.returns-in_err-upper
+returns-in_err-upper c =
+    let (inside, (up, least)) = c.in_ok-middle.ensures in
+    let (y, (far, mem)) = ((c.requires c.in_ok-middle.middle inside).0 up).1.0 in
+    absurd (c.in_err-upper.ensures y far mem)
+
 pub returns-in_err-lower : goal.returns-in_err-lower
 returns-in_err-lower c =
     let (inside, (up, least)) = c.in_ok-middle.ensures in

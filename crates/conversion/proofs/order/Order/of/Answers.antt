@@ -13,7 +13,7 @@ invariant_of-result g c =
     let whole : (c.count.result * 2 ^ n) % 2 ^ 64 ≡ request_total (row_posts rows) n =
     shl_whole c.count.result 4 n 64 (omega (arith, laws.few, c.count.ensures)) (omega arith) ∙ ap (λ k. k * 2 ^ n) c.count.ensures in
     record {
-      few = c.if-conditions-gt9.false;
-      most = omega (arith, whole, at_most (row_posts rows) n laws.few c.if-conditions-gt9.false);
+      few = c.if-conditions-gt-MOST_CONDITIONS.false;
+      most = omega (arith, whole, at_most (row_posts rows) n laws.few c.if-conditions-gt-MOST_CONDITIONS.false);
       whole = whole;
     }
