@@ -3,6 +3,7 @@ pub mod Cases
 pub mod Made
 pub mod Totals
 pub mod Bits
+pub mod Marks
 pub mod Links
 pub mod Passes
 pub mod Shaping

@@ -15,7 +15,8 @@ use Rattle.expressiveness.proofs.Requests.{ground, has-includes, includes-has, i
 use Rattle.conversion.specs.declared.order.Order.{Order}
 use Rattle.conversion.specs.declared.side.Side.{Side}
 use Rattle.conversion.specs.declared.side.Side.TheVariants.{Above, Below}
-use Rattle.conversion.specs.Beyond.{Beyond, Condition, Link, LinkOf, Near, NearTo, OverIn, Posts, turned, upper_of}
+use Rattle.conversion.specs.Beyond.{Beyond, Condition, Link, OverIn, Posts, turned, upper_of}
+use Rattle.conversion.proofs.Marks.{LinkOf, Near, NearTo}
 use Rattle.conversion.proofs.Bits.{added, added-post, lessened, low-holds, same_number}
 
 -- at or above, by the conditions that hold

@@ -9,7 +9,8 @@ use Rattle.conversion.specs.declared.order.Order.{Order}
 use Rattle.conversion.specs.declared.side.Side.{Side}
 use Rattle.conversion.specs.declared.side.Side.TheVariants.{Above, Below}
 use Rattle.conversion.specs.Flags.{Up, flag}
-use Rattle.conversion.specs.Beyond.{Beyond, Condition, Full, Link, LinkOf, OverIn, Passed, Posted, Posts, Sound, Tells, pair_of, turned, upper_of}
+use Rattle.conversion.specs.Beyond.{Beyond, Condition, Link, OverIn, Passed, Posts, Sound, Tells, turned, upper_of}
+use Rattle.conversion.proofs.Marks.{Full, LinkOf, Posted, pair_of}
 use Rattle.conversion.proofs.Links.{Onward, by_condition, by-posts, by-posts-same, link_up, lower_post, near_none, plain, upper_post}
 
 -- one flag put up

@@ -1,5 +1,5 @@
 -- What the marking of requests answers: which requests have some of a set on one side. Only inner functions cite this.
-use Rattle.std.specs.Prelude.{◌≡◌, ℕ, ◌+◌, ◌*◌, ◌/◌, ◌%◌, ◌^◌, ◌<◌, ◌≤◌, Bool, true, not, ◌⊎◌, IfSome, Decides, Option, ◌==◌, ◌≢◌}
+use Rattle.std.specs.Prelude.{◌≡◌, ℕ, ◌+◌, ◌*◌, ◌/◌, ◌%◌, ◌^◌, ◌<◌, Bool, not, ◌⊎◌, IfSome, Decides, Option, ◌==◌}
 use Rattle.std.specs.Bool.{then_some}
 use Rattle.ladders.specs.Rows.{row_posts, rows_at_least}
 use Rattle.ladders.specs.Sets.{holds}
@@ -49,42 +49,14 @@ abbrev pub upper_of : ℕ → Link → ℕ → Option ℕ
 upper_of n (Condition c) x = then_some (not (holds x c)) (x + 2 ^ c)
 upper_of n (Posts p q) x = then_some (x / 2 ^ n == q) (p * 2 ^ n + x % 2 ^ n)
 
--- The link is one of this order.
-abbrev pub LinkOf : Order → Link → Type 0
-LinkOf o (Condition c) = c < o.conditions
-LinkOf o (Posts p q) = (rows_at_least o.ladder.rows p q ≡ true) × (p ≢ q)
-
 -- Each mark is right.
 pub record Sound (o : Order) (side : Side) (members marks : Flags) : Type 0 where
   pub right : (x : ℕ) → Up marks x → SomeBeyond o side members x
 
--- A pass from the requests below k along steps that lead up: no mark is taken away, right marks stay right, and a mark has been handed on. Where of
--- two requests so linked the one on that side is of the set or was marked, the other is marked.
+-- A pass along steps up from the requests below k: no mark is taken away, right marks stay right, and of two requests that a step links, where the
+-- one on that side is of the set or was marked, the other is marked.
 pub record Passed (o : Order) (Step : ℕ → Option ℕ → Type 0) (side : Side) (members marks : Flags) (k : ℕ) (marks' : Flags) : Type 0 where
   pub kept : (x : ℕ) → Up marks x → Up marks' x
   pub sound : Sound o side members marks → Sound o side members marks'
   pub made : (lower : ℕ) → lower < k → (r : Option ℕ) × (Step lower r
       × IfSome r (λ upper. let (from, of) = turned side upper lower in Up members of ⊎ Up marks of → Up marks' from))
-
--- x has all that y has, has the same post, and the same conditions from c on.
-pub record Near (n c x y : ℕ) : Type 0 where
-  pub post : x / 2 ^ n ≡ y / 2 ^ n
-  pub has : (d : ℕ) → d < n → holds y d ≡ true → holds x d ≡ true
-  pub same : (d : ℕ) → c ≤ d → d < n → holds x d ≡ holds y d
-
-abbrev pub NearTo : ℕ → ℕ → Side → ℕ → ℕ → Type 0
-NearTo n c side x y = Near n c (turned side x y).0 (turned side x y).1
-
--- The marks are complete for requests that differ in conditions below c only.
-pub record Full (o : Order) (c : ℕ) (side : Side) (members marks : Flags) : Type 0 where
-  pub near : (x y : ℕ) → x < o.total → NearTo o.conditions c side x y → (x ≢ y) → Up members y → Up marks x
-
--- A pair of posts by its place, the upper post first.
-abbrev pub pair_of : Order → Side → ℕ → ℕ → ℕ
-pair_of o side x y = (turned side x y).0 / 2 ^ o.conditions * 8 + (turned side x y).1 / 2 ^ o.conditions
-
--- The marks are right, and complete for requests with the same post and for those whose posts are one of the first k pairs.
-pub record Posted (o : Order) (k : ℕ) (side : Side) (members marks : Flags) : Type 0 where
-  pub sound : Sound o side members marks
-  pub full : Full o o.conditions side members marks
-  pub pairs : (x y : ℕ) → Beyond o side x y → pair_of o side x y < k → (x / 2 ^ o.conditions ≢ y / 2 ^ o.conditions) → Up members y → Up marks x

@@ -129,7 +129,8 @@ impl Order {
         ensures { MatchOption result (AnyStep self.now led.now → ⊥) (FirstStepAt self.now led.now) }
     {
         let lower = self.first_up(&self.lowers(led))?;
-        let upper = self.first_beyond(Side::Above, lower, &!*led)?;
+        let unled = !*led;
+        let upper = self.first_beyond(Side::Above, lower, &unled)?;
         Some(StepAt { upper, lower })
     }
 

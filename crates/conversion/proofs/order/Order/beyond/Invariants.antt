@@ -1,5 +1,6 @@
 use Rattle.std.proofs.Common.{◌+◌, ◌*◌}
-use Rattle.conversion.specs.Beyond.{Full, Posted, Sound}
+use Rattle.conversion.specs.Beyond.{Sound}
+use Rattle.conversion.proofs.Marks.{Full, Posted}
 use Rattle.conversion.proofs.order.Order.beyond.Given as goal
 
 abbrev pub invariant-loop-c : goal.invariant-loop-c
