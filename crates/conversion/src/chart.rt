@@ -7,7 +7,7 @@ use crate::flags::Flags;
 use policies::Policy;
 use rules::Effect;
 
-// The byte of an effect.
+// The byte of an effect. A function, since `Effect` is another crate's, and so is `u8`: no `From` may stand here.
 fn byte_of(effect: Effect) -> u8
     ensures { result ≡ byte_of effect }
 {

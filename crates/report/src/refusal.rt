@@ -36,7 +36,7 @@ impl From<Unwritten> for Refusal {
 }
 
 impl Refusal {
-    // The number under which the refusal is known.
+    // The number under which the refusal is known: 10, or that of the layer that it came through.
     pub fn number(&self) -> u8
         ensures { result ≡ number_of self.now }
     {

@@ -54,7 +54,7 @@ impl From<LineFault> for FileFault {
 }
 
 impl FileFault {
-    // The number under which the fault is known, 1 to 7.
+    // The number under which the fault is known, 1 to 7. The subject gives the numbers, so they stand in a table and do not follow the order of the cases.
     pub fn number(&self) -> u8
         ensures { result ≡ number (kind_of self.now) }
     {
@@ -69,7 +69,7 @@ impl FileFault {
         }
     }
 
-    // The line and the byte at which it stands.
+    // The line and the byte at which it stands. Each fault but one holds its place, so this is read off by cases and no conversion.
     pub fn place(&self) -> Place
         ensures { result ≡ place_of self.now }
     {

@@ -31,7 +31,7 @@ pub enum Name {
     Post(u8),
 }
 
-// A name, plain or with a `!` before it, which bars it.
+// A name, plain or with a `!` before it, which bars it. The flag does not tell whether there is a name: both kinds have one.
 #[derive(Clone, Copy)]
 pub struct Item {
     pub barred: bool,

@@ -8,7 +8,8 @@ use crate::grammar::{Grammar, Item, Name};
 use lines::Place;
 use rules::{Letter, Rule};
 
-// What a byte names: a condition by its letter, or a post by its digit. That it is one of these is a clause, since an enum has no invariant.
+// What a byte names: a condition by its letter, or a post by its digit. That it is one of these is a clause, since an enum has no invariant; a `TryFrom`
+// would be as public as `Name`, with an error that says nothing.
 fn name_of(b: u8) -> Option<Name>
     ensures value { result ≡ name_of b }
     ensures known { IfSome result Known }

@@ -52,7 +52,7 @@ struct Machine {
     conditions: u8,
     posts: usize,
     room: usize,
-    // the rule of this line, the names that it has had, by their bytes, and whether a plain digit was one of them
+    // the rule of this line, the names that it has had, by their bytes, and whether a plain digit was one of them: any digit, so a flag and no post
     rule: Rule,
     had: [bool; 256],
     floored: bool,
@@ -136,7 +136,7 @@ impl Machine {
         next
     }
 
-    // A name, plain or barred.
+    // A name, plain or barred. Either way it is the same name.
     fn take_name(self, b: u8, barred: bool) -> Taken {
         let digit = match b as char {
             'a'..='i' => false,

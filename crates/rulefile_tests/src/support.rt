@@ -59,6 +59,7 @@ pub const OLD_RULE: Rule = Rule {
 // What each byte of a text holds before a writing. No text has it.
 pub const OLD_BYTE: u8 = b'?';
 
+// A function, since a `Result` of another crate's types takes no `From` here.
 pub(crate) fn answer(read: Result<Listing, FileFault>) -> Answer {
     read.map(|list| (list.letter.symbol(), list.conditions, list.rules))
         .map_err(|fault| {
@@ -67,7 +68,7 @@ pub(crate) fn answer(read: Result<Listing, FileFault>) -> Answer {
         })
 }
 
-// A ladder of so many posts: of eight the house ladder, else a rank ladder.
+// A ladder of so many posts: of eight the house ladder, else a rank ladder. The two are types of their own, so they are told apart here, once.
 pub(crate) fn ladder(posts: usize) -> LadderRows {
     if posts == 8 {
         LadderRows::of(&House)

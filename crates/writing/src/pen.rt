@@ -5,7 +5,7 @@ ghost use Rattle.writing.specs.Steps.{HasRoom, Puts};
 #[derive(Drop)]
 pub(crate) struct Pen<'a> {
     text: &'a mut [u8],
-    // how many bytes are written
+    // how many bytes are written; the rest of the text alone would not tell what stands before it, of which each contract speaks
     at: usize,
 }
 

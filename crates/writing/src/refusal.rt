@@ -11,7 +11,7 @@ pub enum Unwritten {
 }
 
 impl Unwritten {
-    // The number under which the refusal is known.
+    // The number under which the refusal is known. The subject gives the numbers, so they stand in a table and do not follow the order of the cases.
     pub fn number(&self) -> u8
         ensures { result ≡ number_of self.now }
     {
