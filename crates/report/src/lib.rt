@@ -5,4 +5,4 @@ mod refusal;
 mod tidying;
 
 pub use refusal::Refusal;
-pub use tidying::tidy;
+pub use tidying::{LONGEST, tidy};

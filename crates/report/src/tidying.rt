@@ -9,7 +9,7 @@ use rules::Rule;
 use writing::write;
 
 // The longest input, in bytes.
-const LONGEST: usize = 32768;
+pub const LONGEST: usize = 32768;
 
 // Reads the input into the slots, as a rule file on the house ladder, and writes the list that it holds into the text; answers how many
 // bytes it wrote.

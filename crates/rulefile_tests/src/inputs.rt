@@ -1,7 +1,7 @@
 // Whole inputs: how many rules and how many bytes are read.
-use crate::support::{OLD_BYTE, OLD_RULE, Shape, answer, check_slots, check_text};
+use crate::support::{OLD_BYTE, OLD_RULE, Shape, answer, check_slots, check_text, front};
 use ladders::House;
-use report::{Refusal, tidy};
+use report::tidy;
 use rulefile::read;
 use rules::Rule;
 use std::alloc::{AllocError, Global};
@@ -16,17 +16,6 @@ const SLOTS: usize = 4096;
 // What a whole input is answered: the text; or a number and the figures.
 type Told = Result<&'static [u8], (u8, &'static [u128])>;
 
-// Tidies into the first bytes only, and not into more than there are.
-fn tidy_into(
-    input: &[u8],
-    slots: &mut [Rule],
-    room: usize,
-    text: &mut [u8],
-) -> Result<usize, Refusal> {
-    let lent = room.min(text.len());
-    tidy(input, slots, &mut text[..lent])
-}
-
 // Tidies the input with room for so many bytes; the bytes after the text, and all of them after a refusal, stay.
 fn check_tidy(
     rt: &impl Abort,
@@ -36,7 +25,7 @@ fn check_tidy(
     due: Told,
 ) -> Result<(), Fail> {
     let mut text = [OLD_BYTE; 64];
-    match (tidy_into(input, slots, room, &mut text), due) {
+    match (tidy(input, slots, front(&mut text, room)), due) {
         (Ok(count), Ok(bytes)) => {
             assert_eq!(rt; count, bytes.len(), "input {input:?}");
             check_text(rt, &text, bytes);

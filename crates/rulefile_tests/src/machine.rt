@@ -1,5 +1,5 @@
 // A second reader, apart from the first: a machine that takes the whole file byte by byte, and knows of no lines.
-use crate::support::{Answer, OLD_RULE, Shape};
+use crate::support::{Answer, OLD_RULE};
 use rules::{Effect, Rule};
 
 // The most slots that the machine has.
@@ -45,17 +45,25 @@ impl Fault {
     }
 }
 
+// What a name is of.
+#[derive(Clone, Copy)]
+enum Name {
+    Condition(u8),
+    Post(u8),
+}
+
 #[derive(Clone, Copy)]
 struct Machine {
     due: Due,
-    letter: u8,
+    letter: char,
     conditions: u8,
     posts: usize,
     room: usize,
-    // the rule of this line, the names that it has had, by their bytes, and whether a plain digit was one of them: any digit, so a flag and no post
+    // the rule of this line but for its floor post, the names that it has had, by their bytes, and the floor post if one was named
     rule: Rule,
     had: [bool; 256],
-    floored: bool,
+    floor: Option<u8>,
+    // how many slots are taken; the slots after them are looked at too, so they are kept with what they held
     count: usize,
     slots: [Rule; SLOTS],
 }
@@ -67,13 +75,13 @@ impl Machine {
     fn new(posts: usize, room: usize) -> Machine {
         Machine {
             due: Due::Letter,
-            letter: 0,
+            letter: '\0',
             conditions: 0,
             posts,
             room,
             rule: OLD_RULE,
             had: [false; 256],
-            floored: false,
+            floor: None,
             count: 0,
             slots: [OLD_RULE; SLOTS],
         }
@@ -89,7 +97,7 @@ impl Machine {
         match (self.due, b as char) {
             (Due::Letter, 'A'..='D' | 'G') => Ok(Machine {
                 due: Due::Space,
-                letter: b,
+                letter: b as char,
                 ..self
             }),
             (Due::Space, ' ') => Ok(self.until(Due::Figure)),
@@ -109,19 +117,24 @@ impl Machine {
             '\n' => return Ok(self),
             '#' => return Ok(self.until(Due::Comment)),
             '+' => Effect::Permit,
-            '-' if self.letter == b'G' => return Err(Fault::NotAllowed),
+            '-' if self.letter == 'G' => return Err(Fault::NotAllowed),
             '-' => Effect::Deny,
             _ => return Err(Fault::NoMark),
         };
         if self.count >= self.room {
             return Err(Fault::NoSlot);
         }
-        let mark = if effect == Effect::Permit { '+' } else { '-' };
         Ok(Machine {
             due: Due::Item,
-            rule: Shape(mark, 0, 0, 0, 0).into(),
+            rule: Rule {
+                effect,
+                needed: 0,
+                barred: 0,
+                floor: 0,
+                barred_posts: 0,
+            },
             had: [false; 256],
-            floored: false,
+            floor: None,
             ..self
         })
     }
@@ -130,7 +143,10 @@ impl Machine {
     fn keep_rule(self) -> Machine {
         let mut next = self.until(Due::Mark);
         if let Some(slot) = next.slots.get_mut(self.count) {
-            *slot = self.rule;
+            *slot = Rule {
+                floor: self.floor.unwrap_or(0),
+                ..self.rule
+            };
             next.count = self.count.saturating_add(1);
         }
         next
@@ -138,38 +154,34 @@ impl Machine {
 
     // A name, plain or barred. Either way it is the same name.
     fn take_name(self, b: u8, barred: bool) -> Taken {
-        let digit = match b as char {
-            'a'..='i' => false,
-            '0'..='7' => true,
+        let name = match b as char {
+            'a'..='i' => Name::Condition(b.wrapping_sub(97)),
+            '0'..='7' => Name::Post(b.wrapping_sub(48)),
             _ => return Err(Fault::NotDue),
         };
-        let number = b.wrapping_sub(if digit { 48 } else { 97 });
-        let exists = if digit {
-            (number as usize) < self.posts
-        } else {
-            number < self.conditions
+        let exists = match name {
+            Name::Condition(c) => c < self.conditions,
+            Name::Post(p) => usize::from(p) < self.posts,
         };
         if !exists {
             return Err(Fault::OutOfRange);
         }
-        let floor = digit && !barred;
-        if self.had[b as usize] || floor && self.floored {
+        let second = matches!(name, Name::Post(_)) && !barred && self.floor.is_some();
+        if self.had[usize::from(b)] || second {
             return Err(Fault::Repeated);
         }
         let mut next = self.until(Due::Item);
-        next.had[b as usize] = true;
-        next.floored = self.floored || floor;
-        let rule = &mut next.rule;
-        match (digit, barred) {
-            (true, true) => rule.barred_posts |= 1u8.wrapping_shl(number as u32),
-            (true, false) => rule.floor = number,
-            (false, true) => rule.barred |= 1u16.wrapping_shl(number as u32),
-            (false, false) => rule.needed |= 1u16.wrapping_shl(number as u32),
+        next.had[usize::from(b)] = true;
+        match (name, barred) {
+            (Name::Post(p), true) => next.rule.barred_posts |= 1u8.wrapping_shl(u32::from(p)),
+            (Name::Post(p), false) => next.floor = Some(p),
+            (Name::Condition(c), true) => next.rule.barred |= 1u16.wrapping_shl(u32::from(c)),
+            (Name::Condition(c), false) => next.rule.needed |= 1u16.wrapping_shl(u32::from(c)),
         }
         Ok(next)
     }
 
-    // The next byte. What becomes of it hangs on what is due: that the machine goes by states, as the reader does not, is what it is for.
+    // The next byte, by what is due. A machine of states is no switch to be got rid of here: the reader has none, and the two are compared.
     fn take(self, b: u8) -> Taken {
         match (self.due, b as char) {
             (Due::Letter | Due::Space | Due::Figure | Due::HeadEnd, _) => self.take_head(b),
@@ -179,7 +191,7 @@ impl Machine {
             (Due::Item, '\n') => Ok(self.keep_rule()),
             (Due::Item, ' ') => Ok(self.until(Due::Name)),
             (Due::Item, _) => Err(Fault::NotDue),
-            (Due::Name, '!') if self.letter != b'G' => Err(Fault::NotAllowed),
+            (Due::Name, '!') if self.letter != 'G' => Err(Fault::NotAllowed),
             (Due::Name, '!') => Ok(self.until(Due::BarredName)),
             (Due::Name, _) => self.take_name(b, false),
             (Due::BarredName, _) => self.take_name(b, true),
@@ -208,5 +220,5 @@ pub(crate) fn run(posts: usize, room: usize, file: &[u8]) -> (Answer, [Rule; SLO
         }
     }
     let slots = m.slots;
-    (Ok((m.letter as char, m.conditions, m.count)), slots)
+    (Ok((m.letter, m.conditions, m.count)), slots)
 }

@@ -14,22 +14,6 @@ pub type Answer = Result<(char, u8, usize), (u8, usize, usize)>;
 #[derive(Clone, Copy, Debug, PartialEq, Eq)]
 pub struct Shape(pub char, pub u16, pub u16, pub u8, pub u8);
 
-impl From<Rule> for Shape {
-    fn from(rule: Rule) -> Shape {
-        let mark = match rule.effect {
-            Effect::Permit => '+',
-            Effect::Deny => '-',
-        };
-        Shape(
-            mark,
-            rule.needed,
-            rule.barred,
-            rule.floor,
-            rule.barred_posts,
-        )
-    }
-}
-
 impl From<Shape> for Rule {
     fn from(shape: Shape) -> Rule {
         let Shape(mark, needed, barred, floor, barred_posts) = shape;
@@ -82,10 +66,15 @@ pub(crate) fn read_on(posts: usize, file: &[u8], slots: &mut [Rule]) -> Answer {
     answer(read(file, &ladder(posts), slots))
 }
 
-// Reads into the first slots only, and not into more than there are.
+// The first of the slots or bytes, so many as may be lent, or all that there are.
+pub(crate) fn front<T>(all: &mut [T], room: usize) -> &mut [T] {
+    let lent = room.min(all.len());
+    &mut all[..lent]
+}
+
+// Reads into the first slots only.
 pub(crate) fn read_into(posts: usize, room: usize, file: &[u8], slots: &mut [Rule]) -> Answer {
-    let lent = room.min(slots.len());
-    read_on(posts, file, &mut slots[..lent])
+    read_on(posts, file, front(slots, room))
 }
 
 // These values stand at the front, and what follows them is as it was. `what` tells of which case that is.
@@ -97,9 +86,13 @@ fn check_front<T: Copy + Debug + PartialEq, S: Copy + Into<T>>(
     old: T,
 ) {
     assert!(rt; front.len() <= found.len());
-    for (i, value) in found.iter().enumerate() {
-        let due = front.get(i).map_or(old, |due| (*due).into());
+    let (first, others) = found.split_at(front.len());
+    for (i, (value, due)) in first.iter().zip(front).enumerate() {
+        let due: T = (*due).into();
         assert_eq!(rt; *value, due, "of {what:?}, at {i}");
+    }
+    for value in others {
+        assert_eq!(rt; *value, old, "of {what:?}, after the front");
     }
 }
 

@@ -1,5 +1,5 @@
 // Lists as they are written, and what cannot be written.
-use crate::support::{OLD_BYTE, OLD_RULE, Shape, check_slots, check_text, ladder, read_on};
+use crate::support::{OLD_BYTE, OLD_RULE, Shape, check_slots, check_text, front, ladder, read_on};
 use rules::{Letter, Model, Rule};
 use std::process::Abort;
 use writing::{Unwritten, write};
@@ -20,7 +20,7 @@ const ROOM: usize = 80;
 // The letter, the conditions and the posts that a list is written with. Eight posts are the house ladder, fewer a rank ladder.
 type With = (Letter, u8, usize);
 
-// Writes into the first bytes only, and not into more than there are.
+// Writes into the first bytes only.
 fn write_into(
     with: With,
     rules: &[Rule],
@@ -28,8 +28,7 @@ fn write_into(
     text: &mut [u8],
 ) -> Result<usize, Unwritten> {
     let (letter, n, posts) = with;
-    let lent = room.min(text.len());
-    write(letter, n, &ladder(posts), rules, &mut text[..lent])
+    write(letter, n, &ladder(posts), rules, front(text, room))
 }
 
 // One rule, and the text of the list of that rule.

@@ -1,12 +1,12 @@
 // Reads a rule file from standard input, and prints it as lists are written, or why it is refused.
 #![tactic(auto)]
 
-use report::tidy;
+use report::{LONGEST, tidy};
 use rules::{Effect, MOST_REQUESTS, Rule};
 use std::io::{Read, Write};
 
 // One byte more than an input may have, so that a longer one is seen to be.
-const MOST: u64 = 32769;
+const MOST: u64 = LONGEST as u64 + 1;
 
 // How many rules a list may have: as many as there are requests.
 const SLOTS: usize = MOST_REQUESTS;
