@@ -1,4 +1,4 @@
-use crate::letter::Model;
+use crate::letter::{Letter, Model};
 use crate::request::Request;
 use crate::rule::{Effect, Rule};
 use ladders::{House, Rank};
@@ -159,4 +159,26 @@ fn models(rt: HostRuntime) {
         assert_eq!(rt; model.overriding(), overriding);
         assert_eq!(rt; model.lead_effect(), !default);
     }
+}
+
+#[test]
+fn rules_count(rt: HostRuntime) {
+    let permit = floor_rule(1, 0);
+    let deny = Rule {
+        effect: Effect::Deny,
+        ..permit
+    };
+    let barring = Rule {
+        barred: 2,
+        ..permit
+    };
+    let model = Letter::Model(Model::A);
+    assert_eq!(rt;
+        [permit, deny, barring].map(|rule| Letter::Guarded.counts(&rule)),
+        [true, false, true]
+    );
+    assert_eq!(rt;
+        [permit, deny, barring].map(|rule| model.counts(&rule)),
+        [true, true, false]
+    );
 }
