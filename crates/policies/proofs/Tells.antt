@@ -1,5 +1,5 @@
 -- The tests of a list tell what the relations say.
-use Rattle.std.proofs.Common.{◌≡◌, ℕ, ◌<◌, Bool, true, false, not, ◌&&◌, eqb, ◌⊎◌, List, [], ◌∷◌, Decides, sym, refl, ap, ◌∙◌, subst, inl, inr, ⊎_elim, arith}
+use Rattle.std.proofs.Common.{◌≡◌, ℕ, ◌<◌, Bool, false, not, ◌&&◌, eqb, ◌⊎◌, List, [], ◌∷◌, Decides, sym, refl, ap, ◌∙◌, subst, inl, inr, ⊎_elim, arith}
 use mathlib.Core.List.Memᴰ
 use Rattle.std.proofs.lemmas.Bool.{not-true, not_from_false, cases_Bool, false≢true}
 use Rattle.std.proofs.lemmas.Bool.Decides.{Decides-and, Decides-below_and, Decides-eqb, Decides-like, Decides-or, same_from_decides}
@@ -69,8 +69,8 @@ module _ {posts : ℕ} {f : ℕ → ℕ → Bool} (laws : Lawful posts f) where
       from (s, (i, h)) = ⊎_elim (λ (same : s ≡ t). inl (subst (Here letter e q) same h)) (λ j. inr (s, (j, h))) (Memᴰ.cases_cons i)
 
   -- what is left of the tests of one rule, once it has the effect and counts
-  pub rule-applies : (letter : Letter) (e : Effect) (q : Request) (t : Rule) (r : Bool) → t.effect ≡ e → true ≡ counts letter t → Decides r (Applies f t q) → r ≡ rule_reaches f letter e q t
+  pub rule-applies : (letter : Letter) (e : Effect) (q : Request) (t : Rule) (r : Bool) → t.effect ≡ e → Counts letter t → Decides r (Applies f t q) → r ≡ rule_reaches f letter e q t
   rule-applies letter e q t r same count h =
       same_from_decides r (applies f t q) h (applies-tells t q)
-      ∙ ap (λ b. b && applies f t q) count
+      ∙ ap (λ b. b && applies f t q) (sym ((counts-tells letter t).1 count))
       ∙ ap (λ b. b && (counts letter t && applies f t q)) (sym ((same-tells t.effect e).1 same))

@@ -8,15 +8,10 @@ use Rattle.rules.specs.declared.rule.Effect.{Effect}
 use Rattle.rules.specs.declared.rule.Effect.TheVariants.{Permit, Deny}
 use Rattle.rules.specs.declared.rule.Rule.{Rule}
 use Rattle.rules.specs.Models.{Verdict}
+pub use Rattle.rules.specs.Letters.{Counts}
 use Rattle.rules.specs.Requests.{request_at, request_total}
 use Rattle.rules.specs.Rules.{Applies}
 use Rattle.policies.specs.Policies.{Meaning}
-
--- The rule t counts under a letter. In a guarded list permit rules count, and deny rules are passed over. In a list of a model
--- a rule counts that bars nothing: one that bars a condition or a post never applies there, even where what it bars is out of range.
-abbrev pub Counts : Letter → Rule → Type 0
-Counts Guarded t = t.effect ≡ Permit
-Counts (Model m) t = (t.barred ≡ 0) × (t.barred_posts ≡ 0)
 
 -- Of the rules ts, one of effect e counts and applies to the request q, where f tells which post is at least which.
 abbrev pub Applied : (ℕ → ℕ → Bool) → Letter → List Rule → Request → Effect → Type 0

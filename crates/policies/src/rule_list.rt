@@ -2,11 +2,11 @@
 ghost use Rattle.std.specs.Prelude.{◌≡◌};
 ghost use Rattle.ladders.specs.Rows.{rows_at_least};
 ghost use Rattle.policies.specs.Lists.{Meant, OneDecision};
-ghost use Rattle.policies.specs.ListMeaning.{counts, rule_reaches, reaches, list_effect, list_meaning, meaning_of};
+ghost use Rattle.policies.specs.ListMeaning.{rule_reaches, reaches, list_effect, list_meaning, meaning_of};
 
 use crate::policy::Policy;
 use ladders::{Ladder, LadderRows};
-use rules::{Effect, Letter, MOST_CONDITIONS, Request, Rule};
+use rules::{Effect, Letter, Request, Rule};
 
 // Every rule that it is given counts as its letter says. The ladder is kept as a copy of its rows.
 #[derive(Clone, Copy)]
@@ -37,21 +37,11 @@ impl<'a> RuleList<'a> {
         }
     }
 
-    // Whether a rule counts in this list.
-    fn counts(&self, rule: Rule) -> bool
-        ensures { result ≡ counts self.now.letter rule }
-    {
-        match self.letter {
-            Letter::Guarded => rule.effect == Effect::Permit,
-            Letter::Model(_) => rule.bars_nothing(),
-        }
-    }
-
     // Whether a rule has that effect, counts in this list and applies to the request.
     fn rule_reaches(&self, rule: Rule, effect: Effect, request: Request) -> bool
         ensures { result ≡ rule_reaches (rows_at_least self.now.ladder.rows) self.now.letter effect request rule }
     {
-        rule.effect == effect && self.counts(rule) && rule.applies(&self.ladder, request)
+        rule.effect == effect && self.letter.counts(&rule) && rule.applies(&self.ladder, request)
     }
 
     // Whether some rule of the list has that effect, counts and applies to the request.
@@ -84,10 +74,7 @@ impl<'a> Policy for RuleList<'a> {
     ghost meaning = { λ l. meaning_of l };
 
     fn requests(&self) -> usize {
-        if self.conditions > MOST_CONDITIONS {
-            return 0;
-        }
-        self.ladder.count() << self.conditions
+        Request::count_on(&self.ladder, self.conditions).unwrap_or(0)
     }
 
     fn decide(&self, request: usize) -> Option<Effect> {

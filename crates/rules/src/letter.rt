@@ -1,9 +1,9 @@
 // How a list of rules is to be read.
-ghost use Rattle.std.specs.Prelude.{◌≡◌};
-ghost use Rattle.rules.specs.Letters.{letter_byte};
+ghost use Rattle.std.specs.Prelude.{◌≡◌, Decides};
+ghost use Rattle.rules.specs.Letters.{Counts, letter_byte};
 ghost use Rattle.rules.specs.Models.{default, default_overrides, lead, override};
 
-use crate::rule::Effect;
+use crate::rule::{Effect, Rule};
 
 // What a list of a model decides where no rule applies, and where rules of both effects apply, is its model's to say.
 #[derive(Clone, Copy, Debug, PartialEq, Eq)]
@@ -68,6 +68,16 @@ impl Letter {
             Letter::Model(Model::B) => 'B',
             Letter::Model(Model::C) => 'C',
             Letter::Model(Model::D) => 'D',
+        }
+    }
+
+    // Whether a rule counts under this letter: in a guarded list permit rules do, and in a list of a model the rules that bar nothing.
+    pub fn counts(&self, rule: &Rule) -> bool
+        ensures { Decides result (Counts self.now rule.now) }
+    {
+        match self {
+            Letter::Guarded => rule.effect == Effect::Permit,
+            Letter::Model(_) => rule.bars_nothing(),
         }
     }
 }

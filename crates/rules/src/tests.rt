@@ -1,4 +1,4 @@
-use crate::letter::Model;
+use crate::letter::{Letter, Model};
 use crate::request::Request;
 use crate::rule::{Effect, Rule};
 use ladders::{House, Rank};
@@ -43,6 +43,14 @@ fn numbers_at_the_borders(rt: HostRuntime) {
         .number(9),
         Some(131071)
     );
+}
+
+#[test]
+fn requests_are_counted(rt: HostRuntime) {
+    assert_eq!(rt; Request::count_on(&House, 0), Some(8));
+    assert_eq!(rt; Request::count_on(&House, 9), Some(4096));
+    assert_eq!(rt; Request::count_on(&Rank::new(3), 3), Some(24));
+    assert_eq!(rt; Request::count_on(&House, 10), None);
 }
 
 #[test]
@@ -151,4 +159,26 @@ fn models(rt: HostRuntime) {
         assert_eq!(rt; model.overriding(), overriding);
         assert_eq!(rt; model.lead_effect(), !default);
     }
+}
+
+#[test]
+fn rules_count(rt: HostRuntime) {
+    let permit = floor_rule(1, 0);
+    let deny = Rule {
+        effect: Effect::Deny,
+        ..permit
+    };
+    let barring = Rule {
+        barred: 2,
+        ..permit
+    };
+    let model = Letter::Model(Model::A);
+    assert_eq!(rt;
+        [permit, deny, barring].map(|rule| Letter::Guarded.counts(&rule)),
+        [true, false, true]
+    );
+    assert_eq!(rt;
+        [permit, deny, barring].map(|rule| model.counts(&rule)),
+        [true, true, false]
+    );
 }

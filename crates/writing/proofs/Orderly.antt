@@ -8,6 +8,7 @@ use Rattle.ladders.specs.Sets.{holds}
 use Rattle.ladders.proofs.Sets.{zero-holds, no-members}
 use Rattle.rules.specs.declared.rule.Effect.TheVariants.{Permit}
 use Rattle.rules.specs.declared.rule.Rule.{Rule}
+use Rattle.rules.specs.Letters.{Counts}
 use Rattle.rules.specs.declared.letter.Letter.{Letter}
 use Rattle.rules.specs.declared.letter.Letter.TheVariants.{Guarded, Model}
 use Rattle.rules.specs.declared.letter.Model.{Model as Kind}
@@ -16,7 +17,7 @@ use Rattle.rulefile.specs.declared.grammar.Name.TheVariants.{Condition, Post}
 use Rattle.rulefile.specs.declared.grammar.Item.{Item}
 use Rattle.rulefile.specs.Items.{any, same_name, is_condition, is_post, plain_digit, item, Fits, Follow, Means}
 use Rattle.writing.specs.Written.{floor_item, post_item, condition_item, rising, written_items}
-use Rattle.writing.specs.Steps.{Allowed, CanSay}
+use Rattle.writing.specs.Steps.{CanSay}
 
 pub any_append : (f : Item → Bool) (xs ys : List Item) → any f (xs ++ ys) ≡ (any f xs || any f ys)
 any_append f [] ys = refl
@@ -56,15 +57,15 @@ module _ (t : Rule) where
   none_in : (a c : ℕ) {X : Type 0} → a ≡ 0 → holds a c ≡ true → X
   none_in a c z h = absurd (both_ways (holds a c) (ap (λ x. holds x c) z ∙ zero-holds c) h)
 
-  bars-guarded : (l : Letter) → Allowed l t → (c : ℕ) → holds t.barred c ≡ true → l ≡ Guarded
+  bars-guarded : (l : Letter) → Counts l t → (c : ℕ) → holds t.barred c ≡ true → l ≡ Guarded
   bars-guarded Guarded a c h = refl
   bars-guarded (Model m) a c h = none_in t.barred c a.0 h
 
-  posts-guarded : (l : Letter) → Allowed l t → (p : ℕ) → holds t.barred_posts p ≡ true → l ≡ Guarded
+  posts-guarded : (l : Letter) → Counts l t → (p : ℕ) → holds t.barred_posts p ≡ true → l ≡ Guarded
   posts-guarded Guarded a p h = refl
   posts-guarded (Model m) a p h = none_in t.barred_posts p a.1 h
 
-  pub marked : (l : Letter) → Allowed l t → l ≡ Guarded → t.effect ≡ Permit
+  pub marked : (l : Letter) → Counts l t → l ≡ Guarded → t.effect ≡ Permit
   marked Guarded a e = a
   marked (Model m) a e = absurd (cc)
 
@@ -72,7 +73,7 @@ module _ (t : Rule) where
   empty m s h =
       no-members s (λ c. ⊎_elim (λ (e : holds s c ≡ true). let g = h c e in absurd (cc)) (λ (e : holds s c ≡ false). e) (cases_Bool (holds s c)))
 
-  pub allowed-from : (l : Letter) → (l ≡ Guarded → t.effect ≡ Permit) → ((c : ℕ) → holds t.barred c ≡ true → l ≡ Guarded) → ((p : ℕ) → holds t.barred_posts p ≡ true → l ≡ Guarded) → Allowed l t
+  pub allowed-from : (l : Letter) → (l ≡ Guarded → t.effect ≡ Permit) → ((c : ℕ) → holds t.barred c ≡ true → l ≡ Guarded) → ((p : ℕ) → holds t.barred_posts p ≡ true → l ≡ Guarded) → Counts l t
   allowed-from Guarded mark bars posts = mark refl
   allowed-from (Model m) mark bars posts = (empty m t.barred bars, empty m t.barred_posts posts)
 

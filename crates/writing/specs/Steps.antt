@@ -4,10 +4,8 @@ use Rattle.std.specs.List.{AllByRecursion, filter_map, range_with_len}
 use Rattle.std.specs.Option.{option_to_list}
 use Rattle.std.specs.declared.ops.Range.{Range}
 use Rattle.ladders.specs.Sets.{holds}
-use Rattle.rules.specs.declared.rule.Effect.TheVariants.{Permit}
 use Rattle.rules.specs.declared.rule.Rule.{Rule}
-use Rattle.rules.specs.declared.letter.Letter.{Letter}
-use Rattle.rules.specs.declared.letter.Letter.TheVariants.{Guarded, Model}
+use Rattle.rules.specs.Letters.{Counts}
 use Rattle.rulefile.specs.declared.grammar.Grammar.{Grammar}
 use Rattle.rulefile.specs.declared.grammar.Item.{Item}
 use Rattle.rulefile.specs.Items.{Known}
@@ -35,16 +33,11 @@ pub record NamesOnce (t : Rule) : Type 0 where
   pub conditions : Apart t.needed t.barred
   pub posts : 0 < t.floor → holds t.barred_posts t.floor ≡ false
 
--- its letter allows it: a guarded list has no deny rules, and a list of a model bars nothing
-abbrev pub Allowed : Letter → Rule → Type 0
-Allowed Guarded t = t.effect ≡ Permit
-Allowed (Model m) t = (t.barred ≡ 0) × (t.barred_posts ≡ 0)
-
--- so some line can give it
+-- and counts under its letter, so some line can give it
 pub record CanSay (g : Grammar) (t : Rule) : Type 0 where
   pub range : InRange g t
   pub once : NamesOnce t
-  pub allowed : Allowed g.letter t
+  pub allowed : Counts g.letter t
 
 -- the items that f gives for the numbers of a range
 abbrev pub picked : (ℕ → Option Item) → Range ℕ → List Item

@@ -19,7 +19,7 @@ pub(crate) fn text_len(rules: &[Rule]) -> u128
 {
     HEAD + rules
         .iter()
-        .map(|rule| line_len(rule) as u128)
+        .map(|rule| u128::from(line_len(rule)))
         .sum::<u128>()
 }
 

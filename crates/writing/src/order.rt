@@ -1,5 +1,5 @@
 // The items of a rule in the order in which they are written.
-ghost use Rattle.std.specs.Prelude.{◌≡◌, true, false};
+ghost use Rattle.std.specs.Prelude.{◌≡◌};
 ghost use Rattle.std.specs.Iterator.{YieldsFirst, item_count};
 ghost use Rattle.rulefile.specs.Items.{item};
 ghost use Rattle.writing.specs.Written.{floor_item, post_item, condition_item, written_items};
@@ -10,39 +10,30 @@ use rulefile::{Item, Name};
 use rules::{MOST_CONDITIONS, Rule};
 use std::ops::Range;
 
-fn plain(name: Name) -> Item
-    ensures { result ≡ item false name }
+fn item(barred: bool, name: Name) -> Item
+    ensures { result ≡ item barred name }
 {
-    Item {
-        barred: false,
-        name,
-    }
-}
-
-fn barred(name: Name) -> Item
-    ensures { result ≡ item true name }
-{
-    Item { barred: true, name }
+    Item { barred, name }
 }
 
 fn floor_item(rule: &Rule) -> Option<Item>
     ensures { result ≡ floor_item rule.now }
 {
-    (rule.floor != 0).then_some(plain(Name::Post(rule.floor)))
+    (rule.floor != 0).then_some(item(false, Name::Post(rule.floor)))
 }
 
 fn post_item(rule: &Rule, p: u8) -> Option<Item>
     ensures { result ≡ post_item rule.now p }
 {
-    has(rule.barred_posts as u16, p).then_some(barred(Name::Post(p)))
+    has(u16::from(rule.barred_posts), p).then_some(item(true, Name::Post(p)))
 }
 
 fn condition_item(rule: &Rule, c: u8) -> Option<Item>
     ensures { result ≡ condition_item rule.now c }
 {
     let name = Name::Condition(c);
-    let needed = has(rule.needed, c).then_some(plain(name));
-    needed.or(has(rule.barred, c).then_some(barred(name)))
+    let needed = has(rule.needed, c).then_some(item(false, name));
+    needed.or(has(rule.barred, c).then_some(item(true, name)))
 }
 
 // The items that are still to come: the floor post, then barred posts by rising number, then conditions by letter.

@@ -4,11 +4,11 @@ ghost use Rattle.std.specs.List.{slice_get, AllByRecursion};
 ghost use Rattle.rules.specs.declared.rule.Rule.{Rule};
 ghost use Rattle.rulefile.specs.Files.{grammar};
 ghost use Rattle.writing.specs.Writes.{Sayable};
-ghost use Rattle.writing.specs.Steps.{Below, Apart, InRange, NamesOnce, Allowed, CanSay};
+ghost use Rattle.writing.specs.Steps.{Below, Apart, InRange, NamesOnce, CanSay};
 
 use ladders::{Ladder, has};
 use rulefile::Grammar;
-use rules::{Effect, Letter, MOST_CONDITIONS, Rule};
+use rules::{Letter, MOST_CONDITIONS, Rule};
 
 // A grammar whose conditions and posts all have a letter or a digit, and that has a post.
 #[derive(Clone, Copy)]
@@ -38,18 +38,18 @@ impl SmallGrammar {
     fn is_in_range(self, rule: &Rule) -> bool
         ensures { Decides result (InRange self.grammar rule.now) }
     {
-        let conditions = self.grammar.conditions as usize;
-        (rule.floor as usize) < self.grammar.posts
+        let conditions = usize::from(self.grammar.conditions);
+        usize::from(rule.floor) < self.grammar.posts
             && is_below(rule.needed, conditions)
             && is_below(rule.barred, conditions)
-            && is_below(rule.barred_posts as u16, self.grammar.posts)
+            && is_below(u16::from(rule.barred_posts), self.grammar.posts)
     }
 
     // Whether some line gives the rule.
     fn is_sayable(self, rule: &Rule) -> bool
         ensures { Decides result (CanSay self.grammar rule.now) }
     {
-        self.is_in_range(rule) && names_once(rule) && is_allowed(rule, self.grammar.letter)
+        self.is_in_range(rule) && names_once(rule) && self.grammar.letter.counts(rule)
     }
 
     // The slot of the first rule that no line gives.
@@ -60,7 +60,8 @@ impl SmallGrammar {
     }
 }
 
-// Whether the members of a set are below n.
+// Whether the members of a set are below n. The rules ask the like of conditions alone: they compare with 2^n, since a request's number is defined by
+// it, and they bound n themselves, so a function for both would be no plainer.
 fn is_below(set: u16, n: usize) -> bool
     requires { n < 16 }
     ensures { Decides result (Below set n) }
@@ -68,7 +69,7 @@ fn is_below(set: u16, n: usize) -> bool
     set >> n == 0
 }
 
-// Whether no member of a set is one of another.
+// Whether no member of a set is one of another. `Rule::applies` tests so too, by one operator: a function lent from there would be no plainer.
 fn are_apart(set: u16, other: u16) -> bool
     ensures { Decides result (Apart set other) }
 {
@@ -80,15 +81,5 @@ fn names_once(rule: &Rule) -> bool
     ensures { Decides result (NamesOnce rule.now) }
 {
     are_apart(rule.needed, rule.barred)
-        && (rule.floor == 0 || !has(rule.barred_posts as u16, rule.floor))
-}
-
-// Whether a list of this letter may have the rule: a guarded list has no deny rules, and a list of a model bars nothing.
-fn is_allowed(rule: &Rule, letter: Letter) -> bool
-    ensures { Decides result (Allowed letter rule.now) }
-{
-    match letter {
-        Letter::Guarded => rule.effect == Effect::Permit,
-        Letter::Model(_) => rule.bars_nothing(),
-    }
+        && (rule.floor == 0 || !has(u16::from(rule.barred_posts), rule.floor))
 }

@@ -19,13 +19,13 @@ pub fn write<L: Ladder>(
 ) -> Result<usize, Unwritten>
     ensures { Writes (L.posts ladder.now) letter conditions rules.now text.old result text.new }
 {
-    let grammar = SmallGrammar::of(letter, conditions, ladder).ok_or(Unwritten::NoLine(0))?;
-    if let Some(slot) = grammar.first_unsaid(rules) {
+    let small = SmallGrammar::of(letter, conditions, ladder).ok_or(Unwritten::NoLine(0))?;
+    if let Some(slot) = small.first_unsaid(rules) {
         return Err(Unwritten::NoLine(slot));
     }
     let needed = text_len(rules);
     if (text.len() as u128) < needed {
         return Err(Unwritten::NoRoom(needed));
     }
-    Ok(put_list(text, grammar, rules))
+    Ok(put_list(text, small, rules))
 }

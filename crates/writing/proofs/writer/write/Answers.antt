@@ -10,17 +10,17 @@ use Rattle.writing.proofs.writer.write.Goals as goal
 
 pub put_list-requires : goal.put_list-requires
 put_list-requires g c =
-    let few = c.in_ok-grammar.grammar.few in
+    let few = c.in_ok-small.small.few in
     let e = c.text_len-needed.ensures in
-    (all-named c.in_ok-grammar.grammar.grammar few.1.0 few.1.1 few.0 c.args.rules.now c.in_default.ensures, omega arith)
+    (all-named c.in_ok-small.small.grammar few.1.0 few.1.1 few.0 c.args.rules.now c.in_default.ensures, omega arith)
 
 pub returns : goal.returns
 returns g c =
     let posts = g.L.Ladder.posts c.args.ladder.now in
     let rules' = c.args.rules.now in
     let laws = g.met.L.Ladder.lawful c.args.ladder.now in
-    let few = c.in_ok-grammar.grammar.few in
-    let same : c.in_ok-grammar.grammar.grammar ≡ grammar c.args.letter c.args.conditions posts = search rules in
+    let few = c.in_ok-small.small.few in
+    let same : c.in_ok-small.small.grammar ≡ grammar c.args.letter c.args.conditions posts = search rules in
     let n = ap (λ (g : Grammar). g.conditions) same in
     let lawful : LawfulList posts c.args.letter c.args.conditions rules' = (omega arith, subst (λ g. AllByRecursion (Sayable g) rules') same c.in_default.ensures) in
     let count = c.put_list.ensures.count in
