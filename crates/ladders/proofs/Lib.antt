@@ -1,3 +1,4 @@
 pub mod Sets
 pub mod Fills
 pub mod Copies
+pub mod Facts

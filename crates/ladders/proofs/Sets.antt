@@ -1,4 +1,4 @@
--- Which members a set has that is made by `&`, `|` and `!`.
+-- Which members a set has: one made by `&` and `|`, a single bit, all numbers below a bound, none; and that its members tell a set.
 use Rattle.std.proofs.Common.{◌≡◌, ℕ, ◌+◌, ◌-◌, ◌/◌, ◌%◌, ◌^◌, ◌<◌, ◌≤◌, true, false, ◌&&◌, ◌||◌, eqb, sym, ap, ◌∙◌, ⊎_elim, arith}
 use lib.Bits.{bit_and, bit_or}
 use Rattle.std.proofs.lemmas.Nat.{shr-shr}

@@ -12,7 +12,12 @@ use Rattle.rulefile.specs.declared.grammar.Name.TheVariants.{Condition, Post}
 use Rattle.rulefile.specs.declared.grammar.Item.{Item}
 use Rattle.rulefile.specs.declared.draft.Draft.{Draft}
 use Rattle.rulefile.specs.Items.{any, same_name, is_condition, is_post, plain_digit, digit, again, item, Fits, Follow, Means}
-use Rattle.rulefile.specs.Steps.{fresh, repeats_floor, repeats, with_name, with_item, drafted, finished}
+use Rattle.rulefile.specs.Steps.{fresh, repeats_floor, repeats, with_name, with_item, finished}
+
+-- The draft after the items.
+abbrev pub drafted : Draft → List Item → Draft
+drafted d [] = d
+drafted d (i ∷ is) = drafted (with_item d i) is
 
 -- A thing that each item may add to the draft: it is there after the items where it was there before or an item adds it.
 module _ (has : Draft → Bool) (adds : Item → Bool) (step : (d : Draft) (i : Item) → has (with_item d i) ≡ (has d || adds i)) where

@@ -22,6 +22,7 @@ use Rattle.rulefile.specs.declared.grammar.Grammar.{Grammar}
 use Rattle.rulefile.specs.declared.grammar.Name.{Name}
 use Rattle.rulefile.specs.declared.grammar.Name.TheVariants.{Condition, Post}
 use Rattle.rulefile.specs.declared.grammar.Item.{Item}
+use Rattle.rulefile.specs.declared.grammar.Listing.{Listing}
 use Rattle.rulefile.specs.declared.faults.FileFault.{FileFault}
 use Rattle.rulefile.specs.declared.faults.FileFault.TheVariants.{WrongHead}
 use Rattle.rulefile.specs.Faults.{Kind, wrong-head, no-mark, not-due, out_of_range, repeated, not-allowed, no_slot, number, place, place_of, kind_of}
@@ -30,8 +31,8 @@ use Rattle.rulefile.specs.Faulty.{Fault}
 use Rattle.rulefile.specs.RuleLines.{silent}
 use Rattle.rules.specs.Letters.{letter_byte}
 use Rattle.rulefile.specs.Files.{head_line, Head, grammar, Say, nothing, silence, a-rule, ByGrammar, rule_lines, NoHead, Headless, InLine, FaultAt, FirstAt, Answers, OneReading, EveryRule}
-use Rattle.rulefile.specs.Steps.{fresh, drafted, finished, head_of, Stopped, RestSays, listing}
-use Rattle.rulefile.proofs.Drafts.{means-drafted, drafted-effect}
+use Rattle.rulefile.specs.Steps.{fresh, finished, head_of, Stopped, RestSays}
+use Rattle.rulefile.proofs.Drafts.{drafted, means-drafted, drafted-effect}
 use Rattle.rulefile.proofs.LineLaw.{follow-known}
 use Rattle.rulefile.proofs.HeadLaw.{HeadSays, head-says, head-one}
 use Rattle.rulefile.proofs.Readings.{faultless, fault-within, spells-loud, spells_one}
@@ -313,6 +314,11 @@ every-rule posts letter n e items few deny follow =
         ),
       ),
     )
+
+-- What is answered of a file by how many rules its other lines gave.
+abbrev pub listing : Letter → ℕ → Result ℕ FileFault → Result Listing FileFault
+listing letter n (Ok count) = Ok (record { letter = letter; conditions = n; rules = count })
+listing letter n (Err f) = Err f
 
 -- The first line that a new reader hands out is line 1, and the lines ahead of it then are the others.
 module _ {file : Bor (List ℕ)} (s t : Reader) (same : s.file ≡ file) (unread : s.read ≡ 0) (begins : s.at ≡ 0) where

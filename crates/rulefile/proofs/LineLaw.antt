@@ -21,11 +21,16 @@ use Rattle.rulefile.specs.Faults.{Kind, wrong-head, no-mark, not-due, out_of_ran
 use Rattle.rulefile.specs.Items.{Known, spelled, again, Follow, mark_of, Means, Spells}
 use Rattle.rulefile.specs.Faulty.{Begun, begun, Amiss, InItems, AtMark, FirstFault}
 use Rattle.rulefile.specs.RuleLines.{silent}
-use Rattle.rulefile.specs.Steps.{fresh, is_guarded, ItemsRead, end, bad, more, with_item, drafted, finished, next_place, mark_read, repeats, in_file, at, Opened, Unopened}
-use Rattle.rulefile.proofs.Drafts.{repeats-again, means-drafted, drafted-effect, drafted-push, follow-push}
+use Rattle.rulefile.specs.Steps.{fresh, is_guarded, ItemsRead, end, bad, more, with_item, finished, next_place, mark_read, repeats, at, Opened, Unopened}
+use Rattle.rulefile.proofs.Drafts.{drafted, repeats-again, means-drafted, drafted-effect, drafted-push, follow-push}
 use Rattle.rulefile.proofs.Onward.{item-shorter}
 use Rattle.rulefile.proofs.Places.{Ready, first-place}
 use Rattle.rulefile.proofs.ItemLaw.{Told, ItemSays, item-says, guarded-true, guarded-false}
+
+-- A rule line's answer as the file's.
+abbrev pub in_file : Result Rule LineFault → Result (Option Rule) FileFault
+in_file (Ok t) = Ok (Some t)
+in_file (Err f) = Err (Line f)
 
 -- The line x, whose first byte has the place p, says r.
 abbrev pub LineSays : Grammar → Bool → Place → List ℕ → Result (Option Rule) FileFault → Type 0

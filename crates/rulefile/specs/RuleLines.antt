@@ -1,4 +1,4 @@
--- What one line after the first says: nothing, or a rule.
+-- Which lines after the first say nothing.
 use Rattle.std.specs.Prelude.{ℕ, Bool, true, List, [], ◌∷◌, ◌==◌}
 
 -- An empty line, and one that begins with #, say nothing. Any other line after the first is a rule.

@@ -17,7 +17,6 @@ use Rattle.rulefile.specs.declared.grammar.Grammar.{Grammar}
 use Rattle.rulefile.specs.declared.grammar.Name.{Name}
 use Rattle.rulefile.specs.declared.grammar.Name.TheVariants.{Condition, Post}
 use Rattle.rulefile.specs.declared.grammar.Item.{Item}
-use Rattle.rulefile.specs.declared.grammar.Listing.{Listing}
 use Rattle.rulefile.specs.declared.draft.Draft.{Draft}
 use Rattle.rulefile.specs.declared.items.ItemReader.{ItemReader}
 use Rattle.rulefile.specs.declared.faults.ItemFault.{ItemFault}
@@ -25,7 +24,6 @@ use Rattle.rulefile.specs.declared.faults.ItemFault.TheVariants.{NotDue, OutOfRa
 use Rattle.rulefile.specs.declared.faults.LineFault.{LineFault}
 use Rattle.rulefile.specs.declared.faults.LineFault.TheVariants.{Item as InItem, NoMark, Repeated, NotAllowed}
 use Rattle.rulefile.specs.declared.faults.FileFault.{FileFault}
-use Rattle.rulefile.specs.declared.faults.FileFault.TheVariants.{Line as InLine}
 use Rattle.rulefile.specs.Faults.{kind_of, place, place_of}
 use Rattle.rulefile.specs.Items.{name_of, item}
 use Rattle.rulefile.specs.Faulty.{FirstFault}
@@ -169,16 +167,6 @@ Begins g l (Ok None) = silent l.bytes.now ≡ true
 Begins g l (Ok (Some s)) = Opened g l s
 Begins g l (Err f) = Unopened g l f
 
--- the draft after the items
-abbrev pub drafted : Draft → List Item → Draft
-drafted d [] = d
-drafted d (i ∷ is) = drafted (with_item d i) is
-
--- a line's answer as the file's
-abbrev pub in_file : Result Rule LineFault → Result (Option Rule) FileFault
-in_file (Ok t) = Ok (Some t)
-in_file (Err f) = Err (InLine f)
-
 abbrev pub digit_of : ℕ → Option ℕ
 digit_of b = cond (nat_le 48 b && nat_le b 57) (Some (b - 48)) None
 
@@ -219,7 +207,3 @@ abbrev pub RestSays : Grammar → List Span → List Rule → Result ℕ FileFau
 RestSays g ls slots (Ok count) slots' =
     (ts : List Rule) × (Say g ls ts × ((count ≡ length ts) × ((length ts ≤ length slots) × (slots' ≡ filled ts slots))))
 RestSays g ls slots (Err f) slots' = Stopped g ls slots f slots'
-
-abbrev pub listing : Letter → ℕ → Result ℕ FileFault → Result Listing FileFault
-listing letter n (Ok count) = Ok (record { letter = letter; conditions = n; rules = count })
-listing letter n (Err f) = Err f

@@ -9,12 +9,12 @@ use rules::{Effect, Rule};
 
 // What the items so far give. The floor post is told from none, since `0` may be named.
 #[derive(Clone, Copy)]
-pub struct Draft {
-    pub effect: Effect,
-    pub needed: u16,
-    pub barred: u16,
-    pub floor: Option<u8>,
-    pub barred_posts: u8,
+pub(crate) struct Draft {
+    pub(crate) effect: Effect,
+    pub(crate) needed: u16,
+    pub(crate) barred: u16,
+    pub(crate) floor: Option<u8>,
+    pub(crate) barred_posts: u8,
 }
 
 impl Draft {

@@ -83,7 +83,7 @@ impl<'a> ItemReader<'a> {
         ensures { ItemTaken self.old result self.new (after_space self.old.grammar self.old.draft self.old.rest.now (at self.old)) }
     {
         let [first, rest @ ..] = self.rest else {
-            return Err(LineFault::Item(ItemFault::NotDue(self.place())));
+            return Err(ItemFault::NotDue(self.place()).into());
         };
         match (*first as char, self.grammar.letter) {
             ('!', Letter::Guarded) => {
@@ -100,7 +100,7 @@ impl<'a> ItemReader<'a> {
         ensures { ItemTaken self.old result self.new (item_read self.old.grammar self.old.draft self.old.rest.now (at self.old)) }
     {
         let [b' ', rest @ ..] = self.rest else {
-            return Err(LineFault::Item(ItemFault::NotDue(self.place())));
+            return Err(ItemFault::NotDue(self.place()).into());
         };
         self.rest = rest;
         self.after_space()

@@ -16,7 +16,8 @@ use rules::Rule;
 fn read_rules(lines: Reader, grammar: Grammar, slots: &mut [Rule]) -> Result<usize, FileFault>
     ensures { (ls : List Span) → Lines (lines.entry.read + 1) lines.entry.at (drop lines.entry.at lines.entry.file.now) ls → RestSays grammar ls slots.old result slots.new }
 {
-    // the slots are filled by index: of what `iter_mut` or `get_mut` of a slice lent, no proof knows what was written
+    // the slots are filled by index: what an element lent by `iter_mut` or `get_mut` within another loop was set to is not known to the proof after it
+    // (where the `for` goes straight over `iter_mut()`, it is)
     let mut count = 0;
     for line in lines {
         if let Some(items) = begin_rule(line, grammar)? {
