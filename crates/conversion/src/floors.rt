@@ -1,12 +1,11 @@
 // The floors of the list that decides as a policy does, or what stands in its way, from the requests that are led.
-ghost use Rattle.std.specs.Prelude.{◌≡◌, ℕ, ◌<◌, true, false, MatchOption};
+ghost use Rattle.std.specs.Prelude.{ℕ, ◌<◌, true, false, Err, MatchOption};
 ghost use Rattle.expressiveness.specs.Order.{CounterFloor, Least, Minimal};
 ghost use Rattle.rules.specs.Models.{default_overrides};
 ghost use Rattle.conversion.specs.declared.side.Side.TheVariants.{Above, Below};
-ghost use Rattle.conversion.specs.declared.refusal.Unconverted.TheVariants.{Gap, Step};
 ghost use Rattle.conversion.specs.Flags.{Up};
 ghost use Rattle.conversion.specs.Beyond.{Beyond, OverIn, Tells};
-ghost use Rattle.conversion.specs.Shapes.{AnyGap, AnyStep, FirstBeyond, FirstGapAt, FirstStepAt, Flagged, In, Lower, Middle, Shaped};
+ghost use Rattle.conversion.specs.Shapes.{AnyGap, AnyStep, FirstBeyond, Flagged, In, Lower, Middle, Shaped};
 
 use crate::flags::Flags;
 use crate::order::Order;
@@ -19,47 +18,6 @@ use rules::Model;
 pub(crate) struct FloorFlags {
     pub(crate) lead: Flags,
     pub(crate) counter: Flags,
-}
-
-// Three requests one above the other, of which the middle one is not led and the others are.
-#[derive(Clone, Copy)]
-struct GapAt {
-    upper: usize,
-    middle: usize,
-    lower: usize,
-}
-
-// Two requests, the upper not led and the lower led.
-#[derive(Clone, Copy)]
-struct StepAt {
-    upper: usize,
-    lower: usize,
-}
-
-impl From<GapAt> for Unconverted {
-    ghost from_gives = { λ gap refusal. refusal ≡ Gap gap.upper gap.middle gap.lower };
-
-    fn from(gap: GapAt) -> Unconverted {
-        let GapAt {
-            upper,
-            middle,
-            lower,
-        } = gap;
-        Unconverted::Gap {
-            upper,
-            middle,
-            lower,
-        }
-    }
-}
-
-impl From<StepAt> for Unconverted {
-    ghost from_gives = { λ step refusal. refusal ≡ Step step.upper step.lower };
-
-    fn from(step: StepAt) -> Unconverted {
-        let StepAt { upper, lower } = step;
-        Unconverted::Step { upper, lower }
-    }
 }
 
 // What lies above and below the led requests is found once and handed on, as `Tells` says: no ghost field can hold that, since it names witnesses.
@@ -79,7 +37,7 @@ impl Order {
         (0..self.total).find(|y| members.has(*y) && self.is_beyond(side, x, *y))
     }
 
-    // The lowest of a set, which are those with none of it below them.
+    // Those of a set with none of it below them, where it is known which have some below.
     fn without(&self, members: &Flags, below: &Flags) -> Flags
         requires { Tells self.now Below members.now below.now }
         ensures { Flagged self.now (Minimal (OverIn self.now) (In self.now members.now)) result }
@@ -87,6 +45,7 @@ impl Order {
         *members & !*below
     }
 
+    // The lowest of a set.
     fn lowest(&self, members: &Flags) -> Flags
         ensures { Flagged self.now (Minimal (OverIn self.now) (In self.now members.now)) result }
     {
@@ -103,14 +62,14 @@ impl Order {
     }
 
     // The first gap, where the middles are known.
-    fn first_gap(&self, led: &Flags, middles: &Flags) -> Option<GapAt>
+    fn first_gap(&self, led: &Flags, middles: &Flags) -> Option<Unconverted>
         requires { Flagged self.now (Middle self.now led.now) middles.now }
-        ensures { MatchOption result (AnyGap self.now led.now → ⊥) (FirstGapAt self.now led.now) }
+        ensures { MatchOption result (AnyGap self.now led.now → ⊥) (λ gap. Shaped self.now true led.now (Err gap)) }
     {
         let middle = self.first_up(middles)?;
         let upper = self.first_beyond(Side::Above, middle, led)?;
         let lower = self.first_beyond(Side::Below, middle, led)?;
-        Some(GapAt {
+        Some(Unconverted::Gap {
             upper,
             middle,
             lower,
@@ -125,13 +84,13 @@ impl Order {
     }
 
     // The first step.
-    fn first_step(&self, led: &Flags) -> Option<StepAt>
-        ensures { MatchOption result (AnyStep self.now led.now → ⊥) (FirstStepAt self.now led.now) }
+    fn first_step(&self, led: &Flags) -> Option<Unconverted>
+        ensures { MatchOption result (AnyStep self.now led.now → ⊥) (λ step. Shaped self.now false led.now (Err step)) }
     {
         let lower = self.first_up(&self.lowers(led))?;
         let unled = !*led;
         let upper = self.first_beyond(Side::Above, lower, &unled)?;
-        Some(StepAt { upper, lower })
+        Some(Unconverted::Step { upper, lower })
     }
 
     // The lowest hopeless requests: not led, with none led above.
@@ -150,7 +109,7 @@ impl Order {
         let below = self.beyond(Side::Below, led);
         let middles = self.middles(led, &above, &below);
         if let Some(gap) = self.first_gap(led, &middles) {
-            return Err(gap.into());
+            return Err(gap);
         }
         Ok(FloorFlags {
             lead: self.without(led, &below),
@@ -163,7 +122,7 @@ impl Order {
         ensures { Shaped self.now false led.now result }
     {
         if let Some(step) = self.first_step(led) {
-            return Err(step.into());
+            return Err(step);
         }
         Ok(FloorFlags {
             lead: self.lowest(led),

@@ -1,3 +1,4 @@
+use Rattle.std.proofs.Common.{refl}
 use Rattle.conversion.proofs.Shaping.{gap-first, no_gap}
 use Rattle.conversion.proofs.order.Order.first_gap.Goals as goal
 
@@ -19,6 +20,8 @@ returns-in_err-lower c =
 
 pub returns : goal.returns
 returns c =
-    let (inside, least) = c.in_ok-middle.ensures in
-    gap-first c.args.self.now c.args.led.now c.args.middles.now c.requires c.in_ok-upper.upper c.in_ok-middle.middle c.in_ok-lower.lower inside least
-    c.in_ok-upper.ensures c.in_ok-lower.ensures
+    let (inside, least) = c.in_ok-middle.ensures in (
+      refl,
+      gap-first c.args.self.now c.args.led.now c.args.middles.now c.requires c.in_ok-upper.upper c.in_ok-middle.middle c.in_ok-lower.lower inside least
+          c.in_ok-upper.ensures c.in_ok-lower.ensures,
+    )
