@@ -16,7 +16,15 @@ impl Order {
         requires { (c < self.now.conditions) × (lower < self.now.total) }
         ensures { result ≡ upper_of self.now.conditions (Condition c) lower }
     {
-        (!has(lower as u16, c)).then_some(lower + (1 << c))
+        let request = self.request(lower);
+        if has(request.set, c) {
+            return None;
+        }
+        Request {
+            set: request.set | 1 << c,
+            ..request
+        }
+        .number(self.conditions)
     }
 
     // The request with the upper of two posts and the same conditions, if its post is the lower one.
