@@ -6,7 +6,7 @@ ghost use Rattle.policies.specs.ListMeaning.{counts, rule_reaches, reaches, list
 
 use crate::policy::Policy;
 use ladders::{Ladder, LadderRows};
-use rules::{Effect, Letter, MOST_CONDITIONS, Request, Rule};
+use rules::{Effect, Letter, Request, Rule};
 
 // Every rule that it is given counts as its letter says. The ladder is kept as a copy of its rows.
 #[derive(Clone, Copy)]
@@ -84,10 +84,7 @@ impl<'a> Policy for RuleList<'a> {
     ghost meaning = { λ l. meaning_of l };
 
     fn requests(&self) -> usize {
-        if self.conditions > MOST_CONDITIONS {
-            return 0;
-        }
-        self.ladder.count() << self.conditions
+        Request::count_on(&self.ladder, self.conditions).unwrap_or(0)
     }
 
     fn decide(&self, request: usize) -> Option<Effect> {

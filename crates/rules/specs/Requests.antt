@@ -25,6 +25,10 @@ number_of n q = cond (are_conditions n q.set) (Some (q.post * 2 ^ n + q.set)) No
 abbrev pub request_total : ℕ → ℕ → ℕ
 request_total posts n = posts * 2 ^ n
 
+-- That number, as an answer: none with more than 9 conditions.
+abbrev pub count_on : ℕ → ℕ → Option ℕ
+count_on posts n = cond (nat_le n 9) (Some (request_total posts n)) None
+
 -- The set a has every condition that the set b has.
 abbrev pub Includes : ℕ → ℕ → Type 0
 Includes a b = bit_and a b ≡ b

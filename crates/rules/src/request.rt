@@ -1,6 +1,6 @@
 // A request: who asks, by post, and which conditions hold.
 ghost use Rattle.std.specs.Prelude.{◌≡◌, Decides};
-ghost use Rattle.rules.specs.Requests.{AtOrAbove, Includes, are_conditions, numbered_of, number_of};
+ghost use Rattle.rules.specs.Requests.{AtOrAbove, Includes, are_conditions, count_on, numbered_of, number_of};
 
 use ladders::{Ladder, MOST_POSTS};
 
@@ -18,6 +18,13 @@ pub struct Request {
 }
 
 impl Request {
+    // How many requests there are on a ladder and with n conditions; none with more than nine conditions.
+    pub fn count_on<L: Ladder>(ladder: &L, n: u8) -> Option<usize>
+        ensures { result ≡ count_on (L.posts ladder.now) n }
+    {
+        (n <= MOST_CONDITIONS).then(|| ladder.count() << n)
+    }
+
     // The request of a number, with n conditions; none where n is above 9, or where no ladder, having at most eight posts, has such a request.
     pub fn numbered(n: u8, number: usize) -> Option<Request>
         ensures { result ≡ numbered_of n number }

@@ -46,6 +46,14 @@ fn numbers_at_the_borders(rt: HostRuntime) {
 }
 
 #[test]
+fn requests_are_counted(rt: HostRuntime) {
+    assert_eq!(rt; Request::count_on(&House, 0), Some(8));
+    assert_eq!(rt; Request::count_on(&House, 9), Some(4096));
+    assert_eq!(rt; Request::count_on(&Rank::new(3), 3), Some(24));
+    assert_eq!(rt; Request::count_on(&House, 10), None);
+}
+
+#[test]
 fn rules_apply(rt: HostRuntime) {
     let captain = Request {
         post: 4,
