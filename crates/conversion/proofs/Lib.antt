@@ -1,7 +1,6 @@
 pub mod Answering
 pub mod Cases
 pub mod Made
-pub mod Totals
 pub mod Bits
 pub mod Marks
 pub mod Links

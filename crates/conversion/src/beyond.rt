@@ -10,6 +10,7 @@ use crate::side::Side;
 use ladders::{Ladder, MOST_POSTS, has};
 use rules::Request;
 
+// Functions of an order ask that a number is below `total`, here and in other files: the bound is the order's, so no type of numbers can carry it.
 impl Order {
     // The request with one condition more, if it lacks it.
     fn with_condition(&self, c: u8, lower: usize) -> Option<usize>
