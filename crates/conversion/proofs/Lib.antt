@@ -4,6 +4,7 @@ pub mod Made
 pub mod Bits
 pub mod Marks
 pub mod Links
+pub mod Told
 pub mod Passes
 pub mod Shaping
 pub mod Raised

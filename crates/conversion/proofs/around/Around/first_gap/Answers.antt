@@ -1,27 +1,29 @@
 use Rattle.std.proofs.Common.{refl}
 use Rattle.conversion.proofs.Shaping.{gap-first, no_gap}
-use Rattle.conversion.proofs.order.Order.first_gap.Goals as goal
+use Rattle.conversion.proofs.around.Around.first_gap.Goals as goal
 
 pub returns-in_err-middle : goal.returns-in_err-middle
 returns-in_err-middle c =
-    rw c.from_residual.ensures (no_gap c.args.self.now c.args.led.now c.args.middles.now c.requires c.in_err-middle.ensures)
+    let a = c.args.self.now in
+    rw c.from_residual.ensures (no_gap a.order a.led c.middles.result c.middles.ensures c.in_err-middle.ensures)
 
 pub returns-in_err-upper : goal.returns-in_err-upper
 returns-in_err-upper c =
     let (inside, (up, least)) = c.in_ok-middle.ensures in
-    let (y, (far, mem)) = ((c.requires c.in_ok-middle.middle inside).0 up).1.0 in
+    let (y, (far, mem)) = ((c.middles.ensures c.in_ok-middle.middle inside).0 up).1.0 in
     absurd (c.in_err-upper.ensures y far mem)
 
 pub returns-in_err-lower : goal.returns-in_err-lower
 returns-in_err-lower c =
     let (inside, (up, least)) = c.in_ok-middle.ensures in
-    let (y, (far, mem)) = ((c.requires c.in_ok-middle.middle inside).0 up).1.1 in
+    let (y, (far, mem)) = ((c.middles.ensures c.in_ok-middle.middle inside).0 up).1.1 in
     absurd (c.in_err-lower.ensures y far mem)
 
 pub returns : goal.returns
 returns c =
+    let a = c.args.self.now in
     let (inside, least) = c.in_ok-middle.ensures in (
       refl,
-      gap-first c.args.self.now c.args.led.now c.args.middles.now c.requires c.in_ok-upper.upper c.in_ok-middle.middle c.in_ok-lower.lower inside least
+      gap-first a.order a.led c.middles.result c.middles.ensures c.in_ok-upper.upper c.in_ok-middle.middle c.in_ok-lower.lower inside least
           c.in_ok-upper.ensures c.in_ok-lower.ensures,
     )
