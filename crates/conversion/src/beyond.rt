@@ -21,11 +21,11 @@ impl Order {
         if has(request.set, c) {
             return None;
         }
-        Request {
+        let upper = Request {
             set: request.set | 1 << c,
             ..request
-        }
-        .number(self.conditions)
+        };
+        upper.number(self.conditions)
     }
 
     // The request with the upper of two posts and the same conditions, if its post is the lower one.
@@ -37,11 +37,11 @@ impl Order {
         if usize::from(request.post) != lower_post {
             return None;
         }
-        Request {
+        let upper = Request {
             post: upper_post as u8,
             ..request
-        }
-        .number(self.conditions)
+        };
+        upper.number(self.conditions)
     }
 
     // One pass over the requests, with a step from one to another above it: of two so linked, where the one on that side is of the set or marked, the
