@@ -1,10 +1,10 @@
 pub mod Answering
 pub mod Cases
 pub mod Made
-pub mod Totals
 pub mod Bits
 pub mod Marks
 pub mod Links
+pub mod Told
 pub mod Passes
 pub mod Shaping
 pub mod Raised

@@ -59,4 +59,4 @@ pub record Passed (o : Order) (Step : ℕ → Option ℕ → Type 0) (side : Sid
   pub kept : (x : ℕ) → Up marks x → Up marks' x
   pub sound : Sound o side members marks → Sound o side members marks'
   pub made : (lower : ℕ) → lower < k → (r : Option ℕ) × (Step lower r
-      × IfSome r (λ upper. let (from, of) = turned side upper lower in Up members of ⊎ Up marks of → Up marks' from))
+      × IfSome r (λ upper. let (marked, source) = turned side upper lower in Up members source ⊎ Up marks source → Up marks' marked))

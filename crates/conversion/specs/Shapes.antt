@@ -3,8 +3,6 @@ use Rattle.std.specs.Prelude.{◌≡◌, ℕ, ◌<◌, Bool, true, false, cond, 
 use Rattle.expressiveness.specs.Order.{CounterFloor, FirstGap, FirstStep, Gap as IsGap, LeadFloor, Least, Step as IsStep}
 use Rattle.conversion.specs.declared.flags.Flags.{Flags}
 use Rattle.conversion.specs.declared.floors.FloorFlags.{FloorFlags}
-use Rattle.conversion.specs.declared.floors.GapAt.{GapAt}
-use Rattle.conversion.specs.declared.floors.StepAt.{StepAt}
 use Rattle.conversion.specs.declared.order.Order.{Order}
 use Rattle.conversion.specs.declared.side.Side.{Side}
 use Rattle.conversion.specs.declared.side.Side.TheVariants.{Above, Below}
@@ -38,12 +36,6 @@ AnyGap o led = (upper : ℕ) × (middle : ℕ) × (lower : ℕ) × IsGap (OverIn
 
 abbrev pub AnyStep : Order → Flags → Type 0
 AnyStep o led = (upper : ℕ) × (lower : ℕ) × IsStep (OverIn o) (In o led) upper lower
-
-abbrev pub FirstGapAt : Order → Flags → GapAt → Type 0
-FirstGapAt o led g = FirstGap (OverIn o) (In o led) g.upper g.middle g.lower
-
-abbrev pub FirstStepAt : Order → Flags → StepAt → Type 0
-FirstStepAt o led s = FirstStep (OverIn o) (In o led) s.upper s.lower
 
 -- Where the default overrides or not: the floors, and that nothing stands in the way; or the first gap, or the first step.
 abbrev pub Shaped : Order → Bool → Flags → Result FloorFlags Unconverted → Type 0

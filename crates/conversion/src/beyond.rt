@@ -8,23 +8,40 @@ use crate::flags::Flags;
 use crate::order::Order;
 use crate::side::Side;
 use ladders::{Ladder, MOST_POSTS, has};
+use rules::Request;
 
+// Functions of an order ask that a number is below `total`, here and in other files: the bound is the order's, so no type of numbers can carry it.
 impl Order {
     // The request with one condition more, if it lacks it.
     fn with_condition(&self, c: u8, lower: usize) -> Option<usize>
         requires { (c < self.now.conditions) × (lower < self.now.total) }
         ensures { result ≡ upper_of self.now.conditions (Condition c) lower }
     {
-        (!has(lower as u16, c)).then_some(lower + (1 << c))
+        let request = self.request(lower);
+        if has(request.set, c) {
+            return None;
+        }
+        let upper = Request {
+            set: request.set | 1 << c,
+            ..request
+        };
+        upper.number(self.conditions)
     }
 
-    // The request with post p and the same conditions, if its post is q.
-    fn with_post(&self, p: usize, q: usize, lower: usize) -> Option<usize>
-        requires { (p < 8) × (lower < self.now.total) }
-        ensures { result ≡ upper_of self.now.conditions (Posts p q) lower }
+    // The request with the upper of two posts and the same conditions, if its post is the lower one.
+    fn with_post(&self, upper_post: usize, lower_post: usize, lower: usize) -> Option<usize>
+        requires { (upper_post < 8) × (lower < self.now.total) }
+        ensures { result ≡ upper_of self.now.conditions (Posts upper_post lower_post) lower }
     {
-        let mask = (1 << self.conditions) - 1;
-        (lower >> self.conditions == q).then_some((p << self.conditions) + (lower & mask))
+        let request = self.request(lower);
+        if usize::from(request.post) != lower_post {
+            return None;
+        }
+        let upper = Request {
+            post: upper_post as u8,
+            ..request
+        };
+        upper.number(self.conditions)
     }
 
     // One pass over the requests, with a step from one to another above it: of two so linked, where the one on that side is of the set or marked, the
@@ -42,9 +59,9 @@ impl Order {
     {
         for lower in 0..self.total {
             if let Some(upper) = step(lower) {
-                let (from, of) = side.turned(upper, lower);
-                if members.has(of) || marks.has(of) {
-                    marks.raise(from);
+                let (marked, source) = side.turned(upper, lower);
+                if members.has(source) || marks.has(source) {
+                    marks.raise(marked);
                 }
             }
         }
@@ -64,11 +81,11 @@ impl Order {
                 &mut marks,
             );
         }
-        for p in 0..MOST_POSTS {
-            for q in 0..MOST_POSTS {
-                if p != q && self.ladder.at_least(p, q) {
+        for upper_post in 0..MOST_POSTS {
+            for lower_post in 0..MOST_POSTS {
+                if upper_post != lower_post && self.ladder.at_least(upper_post, lower_post) {
                     self.pass(
-                        |lower| self.with_post(p, q, lower),
+                        |lower| self.with_post(upper_post, lower_post, lower),
                         side,
                         members,
                         &mut marks,

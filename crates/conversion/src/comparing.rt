@@ -6,18 +6,15 @@ ghost use Rattle.conversion.specs.Beyond.{Beyond, IsOrder, OverIn};
 use crate::order::Order;
 use crate::side::Side;
 use ladders::{Ladder, LadderRows};
-use rules::{MOST_CONDITIONS, Request};
+use rules::Request;
 
 impl Order {
     // The requests of a ladder and so many conditions; none with more than nine conditions.
     pub(crate) fn of<L: Ladder>(ladder: &L, conditions: u8) -> Option<Order>
         ensures { MatchOption result (9 < conditions) (IsOrder (L.posts ladder.now) (L.at_least ladder.now) conditions) }
     {
-        if conditions > MOST_CONDITIONS {
-            return None;
-        }
         let rows = LadderRows::of(ladder);
-        let total = rows.count() << conditions;
+        let total = Request::count_on(&rows, conditions)?;
         Some(Order {
             ladder: rows,
             conditions,

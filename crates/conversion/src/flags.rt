@@ -54,7 +54,7 @@ impl BitAnd for Flags {
     ghost bitand_gives = { λ a b both. (r : ℕ) → r < 4096 → flag both r ≡ (flag a r && flag b r) };
 
     fn bitand(self, other: Flags) -> Flags {
-        Flags::of(|r| self.has(r) & other.has(r))
+        Flags::of(|r| self.has(r) && other.has(r))
     }
 }
 

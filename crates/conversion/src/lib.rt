@@ -1,6 +1,7 @@
 // A policy becomes a list of a model, or is shown to have none.
 #![tactic(auto)]
 
+mod around;
 mod beyond;
 mod chart;
 mod comparing;

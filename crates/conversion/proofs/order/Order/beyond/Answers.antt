@@ -3,7 +3,7 @@ use Rattle.conversion.specs.Beyond.{Condition, Posts, upper_of}
 use Rattle.conversion.proofs.Links.{link_up}
 use Rattle.conversion.proofs.Passes.{full-more, full-none, posted-all, posted-more, posted-skip, sound_none}
 use Rattle.conversion.proofs.order.Order.beyond.Goals as goal
-use Rattle.conversion.proofs.order.Order.beyond.Goals.{then-p-q+then-at_least, else-p-q, else-p-q-via-then-p-q+else-at_least, else-p-q-via-else-p-q}
+use Rattle.conversion.proofs.order.Order.beyond.Goals.{then-upper_post-lower_post+then-at_least, else-upper_post-lower_post, else-upper_post-lower_post-via-then-upper_post-lower_post+else-at_least, else-upper_post-lower_post-via-else-upper_post-lower_post}
 
 pub loop-c-init : goal.loop-c-init
 loop-c-init c = (
@@ -24,23 +24,23 @@ loop-c-preserved c = (
 
 pub pass-requires-then-at_least-clause-up : goal.pass-requires-then-at_least-clause-up
 pass-requires-then-at_least-clause-up c = λ x y h step.
-    let e : Some y ≡ upper_of c.args.self.now.conditions (Posts c.loop-p.p-counter c.loop-q.q-counter) x = search rules in
-    link_up c.args.self.now (Posts c.loop-p.p-counter c.loop-q.q-counter) (sym c.if-at_least.ensures, c.if-p-q.true) x y h (sym e)
+    let e : Some y ≡ upper_of c.args.self.now.conditions (Posts c.loop-upper_post.upper_post-counter c.loop-lower_post.lower_post-counter) x = search rules in
+    link_up c.args.self.now (Posts c.loop-upper_post.upper_post-counter c.loop-lower_post.lower_post-counter) (sym c.if-at_least.ensures, c.if-upper_post-lower_post.true) x y h (sym e)
 
-pub loop-q-preserved : goal.loop-q-preserved
-loop-q-preserved c =
-    elim c.if-p-q.branch [
-      | then-p-q+then-at_least w ↦
+pub loop-lower_post-preserved : goal.loop-lower_post-preserved
+loop-lower_post-preserved c =
+    elim c.if-upper_post-lower_post.branch [
+      | then-upper_post-lower_post+then-at_least w ↦
           rw w.marks-is
-          (posted-more c.args.self.now c.loop-q-test.true c.loop-q.invariant (sym w.if-at_least.ensures, w.if-p-q.true) (λ x r step. search rules) w.pass-then-at_least.ensures)
-      | else-p-q w ↦
+          (posted-more c.args.self.now c.loop-lower_post-test.true c.loop-lower_post.invariant (sym w.if-at_least.ensures, w.if-upper_post-lower_post.true) (λ x r step. search rules) w.pass-then-at_least.ensures)
+      | else-upper_post-lower_post w ↦
           rw w.marks-is
-          (posted-skip c.args.self.now c.loop-q-test.true c.loop-q.invariant
-          (elim w.else-p-q.branch [
-            | else-p-q-via-then-p-q+else-at_least v ↦ inr (sym v.if-at_least.ensures)
-            | else-p-q-via-else-p-q v ↦ inl v.if-p-q.false
+          (posted-skip c.args.self.now c.loop-lower_post-test.true c.loop-lower_post.invariant
+          (elim w.else-upper_post-lower_post.branch [
+            | else-upper_post-lower_post-via-then-upper_post-lower_post+else-at_least v ↦ inr (sym v.if-at_least.ensures)
+            | else-upper_post-lower_post-via-else-upper_post-lower_post v ↦ inl v.if-upper_post-lower_post.false
           ]))
     ]
 
 pub returns : goal.returns
-returns c = posted-all c.args.self.now c.loop-p.invariant (omega arith)
+returns c = posted-all c.args.self.now c.loop-upper_post.invariant (omega arith)

@@ -1,3 +1,4 @@
+use Rattle.std.proofs.Common.{refl}
 use Rattle.conversion.proofs.Shaping.{no_step, step-first, unled-above}
 use Rattle.conversion.proofs.order.Order.first_step.Goals as goal
 
@@ -13,6 +14,8 @@ returns-in_err-upper c =
 
 pub returns : goal.returns
 returns c =
-    let (inside, least) = c.in_ok-lower.ensures in
-    step-first c.args.self.now c.args.led.now c.not-unled.result c.not-unled.ensures c.lowers.result c.lowers.ensures c.in_ok-upper.upper c.in_ok-lower.lower inside least
-    c.in_ok-upper.ensures
+    let (inside, least) = c.in_ok-lower.ensures in (
+      refl,
+      step-first c.args.self.now c.args.led.now c.not-unled.result c.not-unled.ensures c.lowers.result c.lowers.ensures c.in_ok-upper.upper c.in_ok-lower.lower inside least
+          c.in_ok-upper.ensures,
+    )

@@ -7,14 +7,14 @@ use Rattle.conversion.proofs.order.Order.pass.Goals.{in-Some+then-has, then-has-
 pub raise-requires : goal.raise-requires
 raise-requires g c =
     let up = c.requires.up c.loop-lower.lower c.in-Some.upper c.loop-lower-test.true c.in-Some.ensures in
-    rw c.turned-from.ensures (above-inside c.args.self.now c.args.side c.in-Some.upper c.loop-lower.lower up)
+    rw c.turned-marked.ensures (above-inside c.args.self.now c.args.side c.in-Some.upper c.loop-lower.lower up)
 
 pub loop-lower-preserved : goal.loop-lower-preserved
 loop-lower-preserved g c =
     elim c.match-step.branch [
       | in-Some+then-has w ↦
           rw w.marks-is
-          (passed-more c.loop-lower.invariant w.in-Some.upper w.in-Some.ensures w.turned-from.result w.turned-from.ensures
+          (passed-more c.loop-lower.invariant w.in-Some.upper w.in-Some.ensures w.turned-marked.result w.turned-marked.ensures
           (c.requires.up c.loop-lower.lower w.in-Some.upper c.loop-lower-test.true w.in-Some.ensures)
           (elim w.then-has.branch [
             | then-has-via-then-has v ↦ inl (sym w.has.ensures ∙ v.if-has.true)
@@ -23,7 +23,7 @@ loop-lower-preserved g c =
           w.raise.ensures)
       | in-Some+else-has+else-has-2 w ↦
           rw w.marks-is
-          (passed-stay c.loop-lower.invariant w.in-Some.upper w.in-Some.ensures w.turned-from.result w.turned-from.ensures
+          (passed-stay c.loop-lower.invariant w.in-Some.upper w.in-Some.ensures w.turned-marked.result w.turned-marked.ensures
           (λ m. false≢true (sym w.if-has.false ∙ w.has.ensures ∙ m)) (λ m. false≢true (sym w.if-has-2.false ∙ w.has-else-has.ensures ∙ m)))
       | in_default w ↦ rw w.marks-is (passed-skip c.loop-lower.invariant w.in_default.ensures)
     ]

@@ -1,0 +1,84 @@
+// The led requests with what lies above and below them: their floors where the default overrides, or the first gap.
+ghost use Rattle.std.specs.Prelude.{◌≡◌, true, Err, MatchOption};
+ghost use Rattle.expressiveness.specs.Order.{CounterFloor, LeadFloor};
+ghost use Rattle.conversion.specs.declared.side.Side.TheVariants.{Above, Below};
+ghost use Rattle.conversion.specs.Beyond.{OverIn, Tells};
+ghost use Rattle.conversion.specs.Shapes.{AnyGap, Flagged, In, Middle, Shaped};
+
+use crate::flags::Flags;
+use crate::floors::FloorFlags;
+use crate::order::Order;
+use crate::refusal::Unconverted;
+use crate::side::Side;
+
+// Which requests are led, which have a led one above them, and which have one below.
+#[derive(Drop)]
+pub(crate) struct Around {
+    order: Order,
+    led: Flags,
+    above: Flags,
+    below: Flags,
+    ghost tells_above: { ∥ Tells order Above led above ∥₁ },
+    ghost tells_below: { ∥ Tells order Below led below ∥₁ },
+}
+
+impl Around {
+    pub(crate) fn of(order: &Order, led: &Flags) -> Around
+        ensures { (result.order ≡ order.now) × (result.led ≡ led.now) }
+    {
+        Around {
+            order: *order,
+            led: *led,
+            above: order.beyond(Side::Above, led),
+            below: order.beyond(Side::Below, led),
+        }
+    }
+
+    // The lowest led requests: led, with none led below.
+    fn lowest_led(&self) -> Flags
+        ensures { Flagged self.now.order (LeadFloor (OverIn self.now.order) (In self.now.order self.now.led)) result }
+    {
+        self.led & !self.below
+    }
+
+    // The lowest hopeless requests: not led, with none led above.
+    fn lowest_hopeless(&self) -> Flags
+        ensures { Flagged self.now.order (CounterFloor (OverIn self.now.order) (In self.now.order self.now.led)) result }
+    {
+        self.order.lowest(&(!self.led & !self.above))
+    }
+
+    // The middles of gaps: not led, with a led request above and one below.
+    fn middles(&self) -> Flags
+        ensures { Flagged self.now.order (Middle self.now.order self.now.led) result }
+    {
+        !self.led & (self.above & self.below)
+    }
+
+    // The first gap.
+    fn first_gap(&self) -> Option<Unconverted>
+        ensures { MatchOption result (AnyGap self.now.order self.now.led → ⊥) (λ gap. Shaped self.now.order true self.now.led (Err gap)) }
+    {
+        let middle = self.order.first_up(&self.middles())?;
+        let upper = self.order.first_beyond(Side::Above, middle, &self.led)?;
+        let lower = self.order.first_beyond(Side::Below, middle, &self.led)?;
+        Some(Unconverted::Gap {
+            upper,
+            middle,
+            lower,
+        })
+    }
+
+    // The floors, or the first gap.
+    pub(crate) fn floors(&self) -> Result<FloorFlags, Unconverted>
+        ensures { Shaped self.now.order true self.now.led result }
+    {
+        if let Some(gap) = self.first_gap() {
+            return Err(gap);
+        }
+        Ok(FloorFlags {
+            lead: self.lowest_led(),
+            counter: self.lowest_hopeless(),
+        })
+    }
+}
