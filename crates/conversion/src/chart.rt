@@ -7,7 +7,7 @@ use crate::flags::Flags;
 use policies::Policy;
 use rules::Effect;
 
-// The byte of an effect. A function, since `Effect` is another crate's, and so is `u8`: no `From` may stand here.
+// The byte of an effect in a chart. It is another than its mark in a line, so neither is a `From` for effects.
 fn byte_of(effect: Effect) -> u8
     ensures { result ≡ byte_of effect }
 {
