@@ -60,8 +60,7 @@ impl SmallGrammar {
     }
 }
 
-// Whether the members of a set are below n. The rules ask the like of conditions alone: they compare with 2^n, since a request's number is defined by
-// it, and they bound n themselves, so a function for both would be no plainer.
+// Whether the members of a set are below n. The crate `rules` asks it of conditions alone, by comparing with 2^n as its definition does: no twin.
 fn is_below(set: u16, n: usize) -> bool
     requires { n < 16 }
     ensures { Decides result (Below set n) }
@@ -69,7 +68,7 @@ fn is_below(set: u16, n: usize) -> bool
     set >> n == 0
 }
 
-// Whether no member of a set is one of another. `Rule::applies` tests so too, by one operator: a function lent from there would be no plainer.
+// Whether no member of a set is one of another. `Rule::applies` asks it too, by the same one operator: a function shared for it is no plainer.
 fn are_apart(set: u16, other: u16) -> bool
     ensures { Decides result (Apart set other) }
 {
