@@ -1,4 +1,4 @@
-use Rattle.std.proofs.Common.{sym, ◌∙◌, inl, inr}
+use Rattle.std.proofs.Common.{ℕ, ◌<◌, sym, ◌∙◌, subst, inl, inr}
 use Rattle.std.proofs.lemmas.Bool.{false≢true}
 use Rattle.conversion.proofs.Passes.{above-inside, passed-more, passed-skip, passed-stay}
 use Rattle.conversion.proofs.order.Order.pass.Goals as goal
@@ -7,7 +7,7 @@ use Rattle.conversion.proofs.order.Order.pass.Goals.{in-Some+then-has, then-has-
 pub raise-requires : goal.raise-requires
 raise-requires g c =
     let up = c.requires.up c.loop-lower.lower c.in-Some.upper c.loop-lower-test.true c.in-Some.ensures in
-    rw c.turned-marked.ensures (above-inside c.args.self.now c.args.side c.in-Some.upper c.loop-lower.lower up)
+    subst (λ (p : ℕ × ℕ). p.0 < 4096) (sym c.turned-marked.ensures) (above-inside c.args.self.now c.args.side c.in-Some.upper c.loop-lower.lower up)
 
 pub loop-lower-preserved : goal.loop-lower-preserved
 loop-lower-preserved g c =
