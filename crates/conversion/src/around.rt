@@ -73,6 +73,7 @@ impl Around {
     pub(crate) fn floors(&self) -> Result<FloorFlags, Unconverted>
         ensures { Shaped self.now.order true self.now.led result }
     {
+        // a refusal where there is something: `ok_or` goes the other way
         if let Some(gap) = self.first_gap() {
             return Err(gap);
         }

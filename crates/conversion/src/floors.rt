@@ -64,6 +64,7 @@ impl Order {
     fn upward_floors(&self, led: &Flags) -> Result<FloorFlags, Unconverted>
         ensures { Shaped self.now false led.now result }
     {
+        // a refusal where there is something: `ok_or` goes the other way
         if let Some(step) = self.first_step(led) {
             return Err(step);
         }

@@ -15,6 +15,7 @@ pub trait Ladder {
     fn count(&self) -> usize
         ensures { result ≡ posts self.now };
 
+    // Of any two numbers, so they are no pair of posts with a type of its own.
     fn at_least(&self, p: usize, q: usize) -> bool
         ensures { result ≡ at_least self.now p q };
 

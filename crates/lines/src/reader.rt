@@ -18,7 +18,8 @@ pub struct Line<'a> {
     pub bytes: &'a [u8],
 }
 
-// Stands in the caller's bytes at the next unread line, which starts at `at`; `read` lines lie before it.
+// Stands in the caller's bytes at the next unread line, which starts at `at`; `read` lines lie before it. The whole file is kept beside the position, since
+// the offset that a line is told with counts from its start.
 #[derive(Drop)]
 pub struct Reader<'a> {
     file: &'a [u8],

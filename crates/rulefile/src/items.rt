@@ -64,7 +64,7 @@ impl<'a> ItemReader<'a> {
         Ok(name)
     }
 
-    // An item by its name, which is new to the line.
+    // An item by its name, which is new to the line. Whether it is barred is a flag, as in `Item`: both kinds have a name.
     fn new_item(&mut self, barred: bool) -> Result<(), LineFault>
         ensures { ItemTaken self.old result self.new (new_item self.old.grammar self.old.draft barred self.old.rest.now (at self.old)) }
     {

@@ -12,7 +12,7 @@ use rules::{Effect, Letter};
 // A line that begins with it says nothing.
 const COMMENT: char = '#';
 
-// The effect that a rule's mark stands for. A guarded list has no deny rules.
+// The effect that a rule's mark stands for. A guarded list has no deny rules, so this needs the letter and is no conversion of a byte.
 fn read_mark(mark: u8, grammar: Grammar, place: Place) -> Result<Effect, LineFault>
     ensures { result ≡ mark_read grammar mark place }
 {

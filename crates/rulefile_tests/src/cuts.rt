@@ -54,7 +54,7 @@ fn meant(sign: u8, k: usize, case: Case) -> Answer {
         'h' => Err((1, 1, 0)),
         '?' => Err((3, line_at(file, k), k)),
         'x' => whole,
-        _ => Ok((letter, conditions, sign.wrapping_sub(48) as usize)),
+        _ => Ok((letter, conditions, usize::from(sign.wrapping_sub(b'0')))),
     }
 }
 

@@ -3,15 +3,12 @@ use crate::support::{OLD_BYTE, OLD_RULE, Shape, answer, check_slots, check_text,
 use ladders::House;
 use report::tidy;
 use rulefile::read;
-use rules::Rule;
+use rules::{MOST_REQUESTS, Rule};
 use std::alloc::{AllocError, Global};
 use std::process::Abort;
 use std::test::Fail;
 
 const A: Shape = Shape('+', 1, 0, 0, 0);
-
-// How many rules a list may have.
-const SLOTS: usize = 4096;
 
 // What a whole input is answered: the text; or a number and the figures.
 type Told = Result<&'static [u8], (u8, &'static [u128])>;
@@ -72,14 +69,14 @@ fn most_rules(rt: HostRuntime) -> Result<(), Fail> {
     ];
     for (count, due) in cases {
         let file = many_rules(heap, count)?;
-        let mut slots = vec![in heap; OLD_RULE; SLOTS]?;
+        let mut slots = vec![in heap; OLD_RULE; MOST_REQUESTS]?;
         assert_eq!(rt; answer(read(&file, &House, &mut slots)), due);
-        let taken = count.min(SLOTS);
-        assert!(rt; slots.len() == SLOTS);
+        let taken = count.min(MOST_REQUESTS);
+        assert!(rt; slots.len() == MOST_REQUESTS);
         check_all(&rt, &slots[..taken], A.into());
         check_all(&rt, &slots[taken..], OLD_RULE);
     }
-    let mut slots = vec![in heap; OLD_RULE; SLOTS]?;
+    let mut slots = vec![in heap; OLD_RULE; MOST_REQUESTS]?;
     let file = many_rules(heap, 4096)?;
     let mut text = vec![in heap; OLD_BYTE; 16388]?;
     match tidy(&file, &mut slots, &mut text) {

@@ -92,7 +92,7 @@ impl Machine {
         Machine { due, ..self }
     }
 
-    // A byte of line 1.
+    // A byte of line 1, by what is due.
     fn take_head(self, b: u8) -> Taken {
         match (self.due, b as char) {
             (Due::Letter, 'A'..='D' | 'G') => Ok(Machine {
@@ -103,7 +103,7 @@ impl Machine {
             (Due::Space, ' ') => Ok(self.until(Due::Figure)),
             (Due::Figure, '0'..='9') => Ok(Machine {
                 due: Due::HeadEnd,
-                conditions: b.wrapping_sub(48),
+                conditions: b.wrapping_sub(b'0'),
                 ..self
             }),
             (Due::HeadEnd, '\n') => Ok(self.until(Due::Mark)),
@@ -155,8 +155,8 @@ impl Machine {
     // A name, plain or barred. Either way it is the same name.
     fn take_name(self, b: u8, barred: bool) -> Taken {
         let name = match b as char {
-            'a'..='i' => Name::Condition(b.wrapping_sub(97)),
-            '0'..='7' => Name::Post(b.wrapping_sub(48)),
+            'a'..='i' => Name::Condition(b.wrapping_sub(b'a')),
+            '0'..='7' => Name::Post(b.wrapping_sub(b'0')),
             _ => return Err(Fault::NotDue),
         };
         let exists = match name {

@@ -64,7 +64,7 @@ fn reader_and_machine_agree(rt: HostRuntime) -> Result<(), Fail> {
         assert_eq!(rt; (found, slots), run(posts, room, &file), "file {file:?}");
         let kind = match found {
             Ok(_) => 0,
-            Err((number, _, _)) => number as usize,
+            Err((number, _, _)) => usize::from(number),
         };
         assert!(rt; kind < 8);
         met[kind] = met[kind].wrapping_add(1);

@@ -58,7 +58,7 @@ pub enum Letter {
 }
 
 impl Letter {
-    // The character that stands for the letter in a rule file. Its callers have this call, so it is no conversion by From.
+    // The character that stands for the letter in a rule file. As `char::from` of a letter it would be no plainer: a letter has this one, and a reader is told here what it is.
     pub fn symbol(&self) -> char
         ensures { result ≡ letter_byte self.now }
     {

@@ -10,6 +10,7 @@ use rulefile::{Item, Name};
 use rules::{MOST_CONDITIONS, Rule};
 use std::ops::Range;
 
+// An item by its parts. The flag is that of `Item`: both kinds have a name.
 fn item(barred: bool, name: Name) -> Item
     ensures { result ≡ item barred name }
 {

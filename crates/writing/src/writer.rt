@@ -20,6 +20,7 @@ pub fn write<L: Ladder>(
     ensures { Writes (L.posts ladder.now) letter conditions rules.now text.old result text.new }
 {
     let small = SmallGrammar::of(letter, conditions, ladder).ok_or(Unwritten::NoLine(0))?;
+    // a refusal where there is something: `ok_or` goes the other way
     if let Some(slot) = small.first_unsaid(rules) {
         return Err(Unwritten::NoLine(slot));
     }
