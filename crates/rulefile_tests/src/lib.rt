@@ -12,6 +12,8 @@ mod lawful;
 #[cfg(test)]
 mod machine;
 #[cfg(test)]
+mod printed;
+#[cfg(test)]
 mod random;
 #[cfg(test)]
 mod slots;
