@@ -52,18 +52,14 @@ pub(crate) fn answer(read: Result<Listing, FileFault>) -> Answer {
         })
 }
 
-// A ladder of so many posts: of eight the house ladder, else a rank ladder. The two are types of their own, so they are told apart here, once.
-pub(crate) fn ladder(posts: usize) -> LadderRows {
-    if posts == 8 {
-        LadderRows::of(&House)
-    } else {
-        LadderRows::of(&Rank::new(posts))
-    }
-}
-
-// Reads on a ladder of so many posts.
+// Reads on a ladder of so many posts: of eight the house ladder, of two a rank ladder by its rows, else a rank ladder. The three are types of their own, so
+// they are told apart here, and where lists are written.
 pub(crate) fn read_on(posts: usize, file: &[u8], slots: &mut [Rule]) -> Answer {
-    answer(read(file, &ladder(posts), slots))
+    answer(match posts {
+        8 => read(file, &House, slots),
+        2 => read(file, &LadderRows::of(&Rank::new(2)), slots),
+        _ => read(file, &Rank::new(posts), slots),
+    })
 }
 
 // The first of the slots or bytes, so many as may be lent, or all that there are.

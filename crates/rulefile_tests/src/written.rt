@@ -1,5 +1,6 @@
 // Lists as they are written, and what cannot be written.
-use crate::support::{OLD_BYTE, OLD_RULE, Shape, check_slots, check_text, front, ladder, read_on};
+use crate::support::{OLD_BYTE, OLD_RULE, Shape, check_slots, check_text, front, read_on};
+use ladders::{House, LadderRows, Rank};
 use rules::{Letter, Model, Rule};
 use std::process::Abort;
 use writing::{Unwritten, write};
@@ -17,7 +18,7 @@ const G: Letter = Letter::Guarded;
 // How long the longest text here is, and some bytes more.
 const ROOM: usize = 80;
 
-// The letter, the conditions and the posts that a list is written with. Eight posts are the house ladder, fewer a rank ladder.
+// The letter, the conditions and the posts that a list is written with. Eight posts are the house ladder, fewer a rank ladder, of which that of two stands by its rows.
 type With = (Letter, u8, usize);
 
 // Writes into the first bytes only.
@@ -28,7 +29,12 @@ fn write_into(
     text: &mut [u8],
 ) -> Result<usize, Unwritten> {
     let (letter, n, posts) = with;
-    write(letter, n, &ladder(posts), rules, front(text, room))
+    let text = front(text, room);
+    match posts {
+        8 => write(letter, n, &House, rules, text),
+        2 => write(letter, n, &LadderRows::of(&Rank::new(2)), rules, text),
+        _ => write(letter, n, &Rank::new(posts), rules, text),
+    }
 }
 
 // One rule, and the text of the list of that rule.
