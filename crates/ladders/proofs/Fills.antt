@@ -1,5 +1,5 @@
 -- The row of a post, filled with the posts that pass, one after another.
-use Rattle.std.proofs.Common.{◌≡◌, ℕ, zero, suc, ◌+◌, ◌*◌, ◌%◌, ◌^◌, ◌<◌, ◌≤◌, Bool, true, false, ◌&&◌, ◌||◌, eqb, ltb, leb, filter, fold, ap, ◌∙◌, ⊎_elim, arith}
+use Rattle.std.proofs.Common.{◌≡◌, ℕ, zero, suc, ◌+◌, ◌*◌, ◌%◌, ◌^◌, ◌<◌, ◌≤◌, Bool, true, false, cond, ◌&&◌, ◌||◌, eqb, ltb, leb, fold, ap, ◌∙◌, ⊎_elim, arith}
 use Rattle.std.specs.List.{range_with_len}
 use lib.Bits.{bit_or}
 use Rattle.std.proofs.lemmas.Nat.{one_shl}
@@ -8,29 +8,34 @@ use Rattle.std.proofs.lemmas.Bool.Decides.{nat_tests}
 use Rattle.ladders.specs.Sets.{holds}
 use Rattle.ladders.proofs.Sets.{or-holds, power-holds, zero-holds}
 
--- the set m with the post q besides
-abbrev pub put : ℕ → ℕ → ℕ
-put m q = bit_or m ((1 * 2 ^ q) % 2 ^ 8)
+-- the set m with the post q besides, where that post passes
+abbrev pub put : (ℕ → Bool) → ℕ → ℕ → ℕ
+put f m q = bit_or m ((cond (f q) 1 0 * 2 ^ q) % 2 ^ 8)
 
-put-holds : (m q k : ℕ) → q < 8 → holds (put m q) k ≡ (holds m k || eqb q k)
-put-holds m q k h = ap (λ x. holds (bit_or m x) k) (one_shl q 8 h) ∙ or-holds m (2 ^ q) k ∙ ap (λ b. holds m k || b) (power-holds q k)
+put-holds : (f : ℕ → Bool) (m q k : ℕ) → q < 8 → holds (put f m q) k ≡ (holds m k || (eqb q k && f q))
+put-holds f m q k h =
+    ⊎_elim
+    (λ (t : f q ≡ true).
+    let bit : cond (f q) 1 0 ≡ 1 = ap (λ b. cond b 1 0) t in
+    let at = power-holds q k in
+    ap (λ n. holds (bit_or m ((n * 2 ^ q) % 2 ^ 8)) k) bit ∙ ap (λ x. holds (bit_or m x) k) (one_shl q 8 h) ∙ or-holds m (2 ^ q) k ∙ grind (arith, nat_tests))
+    (λ (t : f q ≡ false).
+    let bit : cond (f q) 1 0 ≡ 0 = ap (λ b. cond b 1 0) t in
+    let none = zero-holds k in
+    let zeros : (0 * 2 ^ q) % 2 ^ 8 ≡ 0 = omega arith in
+    ap (λ n. holds (bit_or m ((n * 2 ^ q) % 2 ^ 8)) k) bit ∙ ap (λ x. holds (bit_or m x) k) zeros ∙ or-holds m 0 k ∙ grind (arith, nat_tests))
+    (cases_Bool (f q))
 
 -- the n posts from a on
-filled-from : (f : ℕ → Bool) (n a m k : ℕ) → a + n ≤ 8 → holds (fold put m (filter f (range_with_len a n))) k ≡ (holds m k || ((leb a k && ltb k (a + n)) && f k))
+filled-from : (f : ℕ → Bool) (n a m k : ℕ) → a + n ≤ 8 → holds (fold (put f) m (range_with_len a n)) k ≡ (holds m k || ((leb a k && ltb k (a + n)) && f k))
 filled-from f zero a m k h = grind (arith, nat_tests)
 filled-from f (suc n) a m k h =
-    ⊎_elim
-    (λ (t : f a ≡ true).
-    let step = filled-from f n (a + 1) (put m a) k (omega arith) in
-    let one = put-holds m a k (omega arith) in
-    rw t (grind (arith, nat_tests)))
-    (λ (t : f a ≡ false).
-    let step = filled-from f n (a + 1) m k (omega arith) in
-    rw t (grind (arith, nat_tests)))
-    (cases_Bool (f a))
+    let step = filled-from f n (a + 1) (put f m a) k (omega arith) in
+    let one = put-holds f m a k (omega arith) in
+    step ∙ grind (arith, nat_tests)
 
 -- eight posts are all that a row can have
-pub row-filled : (f : ℕ → Bool) (k : ℕ) → k < 8 → holds (fold put 0 (filter f (range_with_len 0 8))) k ≡ f k
+pub row-filled : (f : ℕ → Bool) (k : ℕ) → k < 8 → holds (fold (put f) 0 (range_with_len 0 8)) k ≡ f k
 row-filled f k h =
     let row = filled-from f 8 0 0 k (omega arith) in
     let none = zero-holds k in

@@ -1,8 +1,9 @@
--- Which members a set has: one made by `&` and `|`, a single bit, all numbers below a bound, none; and that its members tell a set.
-use Rattle.std.proofs.Common.{◌≡◌, ℕ, ◌+◌, ◌-◌, ◌/◌, ◌%◌, ◌^◌, ◌<◌, ◌≤◌, true, false, ◌&&◌, ◌||◌, eqb, sym, ap, ◌∙◌, ⊎_elim, arith}
+-- Which members a set has: one made by `&`, `|` and `!`, half of one, a single bit, all numbers below a bound, none; and that its members tell a set.
+use Rattle.std.proofs.Common.{◌≡◌, ℕ, zero, suc, ◌+◌, ◌-◌, ◌/◌, ◌%◌, ◌^◌, ◌<◌, ◌≤◌, true, false, not, ◌&&◌, ◌||◌, eqb, sym, ap, ◌∙◌, ⊎_elim, arith}
 use lib.Bits.{bit_and, bit_or}
 use Rattle.std.proofs.lemmas.Nat.{shr-shr}
-use Rattle.std.proofs.lemmas.Nat.Bits.{bit_at-lt, bit_at_and, bit_at_or, bit_at-pow_same, bit_at-pow_other, bit_at-zero, bit_at_above, bit_at_ones, same_from_bits}
+use Rattle.std.proofs.Math.Nat.{pow-suc}
+use Rattle.std.proofs.lemmas.Nat.Bits.{bit_at-lt, bit_at-suc, bit_at_lowest, bit_at_and, bit_at_or, bit_at-pow_same, bit_at-pow_other, bit_at-zero, bit_at_above, bit_at_ones, same_from_bits}
 use Rattle.std.proofs.lemmas.Bool.{cases_Bool, cases_eq}
 use Rattle.std.proofs.lemmas.Bool.Decides.{nat_tests}
 use Rattle.ladders.specs.Sets.{holds}
@@ -18,6 +19,31 @@ or-holds a b c =
     let x = bit_at-lt a c in
     let y = bit_at-lt b c in
     ap (λ x. eqb x 1) (bit_at_or a b c) ∙ grind (arith, nat_tests)
+
+-- half of a set has each member one place down
+pub half-holds : (a c : ℕ) → holds (a / 2) c ≡ holds a (c + 1)
+half-holds a c = ap (λ x. eqb (x % 2) 1) (shr-shr a 1 c ∙ ap (λ k. a / 2 ^ k) (let e : 1 + c ≡ c + 1 = omega arith in e))
+
+-- at w bits, every bit turned round
+pub not-holds-at : (w a d : ℕ) → a < 2 ^ w → d < w → holds ((2 ^ w - 1) - a) d ≡ not (holds a d)
+not-holds-at zero a d fits h = absurd (omega arith)
+not-holds-at (suc w) a zero fits h =
+    let x = bit_at_lowest a in
+    let y = bit_at_lowest ((2 ^ suc w - 1) - a) in
+    let two = pow-suc 2 w in
+    let below = bit_at-lt a 0 in
+    grind (arith, nat_tests)
+not-holds-at (suc w) a (suc d) fits h =
+    let two = pow-suc 2 w in
+    let half : ((2 ^ suc w - 1) - a) / 2 ≡ (2 ^ w - 1) - a / 2 = omega arith in
+    ap (λ x. eqb x 1) (bit_at-suc ((2 ^ suc w - 1) - a) d)
+    ∙ ap (λ x. holds x d) half
+    ∙ not-holds-at w (a / 2) d (omega arith) (omega arith)
+    ∙ ap (λ x. not (eqb x 1)) (sym (bit_at-suc a d))
+
+-- the same at a width that is told by the bits above c
+pub not-holds : (a c j : ℕ) → a < 2 ^ (j + 1 + c) → holds ((2 ^ (j + 1 + c) - 1) - a) c ≡ not (holds a c)
+not-holds a c j fits = not-holds-at (j + 1 + c) a c fits (omega arith)
 
 -- one bit holds at its own place alone
 pub power-holds : (c d : ℕ) → holds (2 ^ c) d ≡ eqb c d

@@ -31,7 +31,9 @@ impl Ladder for LadderRows {
     ghost lawful = { λ l. l.lawful };
 
     fn count(&self) -> usize {
-        (0..MOST_POSTS).filter(|p| self.at_least(*p, *p)).count()
+        (0..MOST_POSTS)
+            .map(|p| usize::from(self.at_least(p, p)))
+            .sum()
     }
 
     fn at_least(&self, p: usize, q: usize) -> bool {

@@ -11,9 +11,7 @@ use std::array;
 fn row<L: Ladder>(ladder: &L, p: usize) -> u8
     ensures { (q : ℕ) → q < 8 → holds result q ≡ L.at_least ladder.now p q }
 {
-    (0..MOST_POSTS)
-        .filter(|q| ladder.at_least(p, *q))
-        .fold(0, |row, q| row | 1 << q)
+    (0..MOST_POSTS).fold(0, |row, q| row | u8::from(ladder.at_least(p, q)) << q)
 }
 
 pub fn rows<L: Ladder>(ladder: &L) -> [u8; MOST_POSTS]

@@ -1,10 +1,19 @@
--- What is shown by asking of every number that can be a post.
-use Rattle.std.proofs.Common.{◌≡◌, ℕ, zero, suc, ◌+◌, ◌<◌, ◌≤◌, Bool, true, false, not, ◌&&◌, Decides, refl, subst, ⊎_elim, arith}
+-- What is shown by asking of every number that can be a post, and what the test of one bit shows.
+use Rattle.std.proofs.Common.{◌≡◌, ℕ, zero, suc, ◌+◌, ◌/◌, ◌%◌, ◌^◌, ◌<◌, ◌≤◌, Bool, true, false, not, ◌&&◌, Decides, sym, refl, ◌∙◌, subst, ⊎_elim, arith}
 use Rattle.std.specs.List.{list_any, range_with_len}
-use Rattle.std.proofs.lemmas.Bool.{cases_Bool, cases_eq, not-true, not_from_false, or_parts}
+use lib.Bits.{bit_and}
+use Rattle.std.proofs.lemmas.Nat.{and_mask}
+use Rattle.std.proofs.lemmas.Bool.{cases_Bool, cases_eq, eq-eqb, eqb-true, not-true, not_from_false, or_parts}
 use Rattle.ladders.specs.Ladders.{Lawful}
 use Rattle.ladders.specs.Sets.{holds}
 use Rattle.rules.specs.Rules.{Clear}
+
+-- the test of one bit
+pub bit-holds : (s p : ℕ) → bit_and (s / 2 ^ p) 1 ≡ 1 → holds s p ≡ true
+bit-holds s p e = eq-eqb (s / 2 ^ p % 2) 1 (sym (and_mask (s / 2 ^ p) 1) ∙ e)
+
+pub holds-bit : (s p : ℕ) → holds s p ≡ true → bit_and (s / 2 ^ p) 1 ≡ 1
+holds-bit s p e = and_mask (s / 2 ^ p) 1 ∙ eqb-true (s / 2 ^ p % 2) 1 e
 
 -- eight numbers are all that can be posts
 pub clear-all : {posts : ℕ} {f : ℕ → ℕ → Bool} → Lawful posts f → (post barred : ℕ) → ((k : ℕ) → k < 8 → holds barred k ≡ true → f post k ≡ false) → Clear f post barred

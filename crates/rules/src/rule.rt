@@ -4,7 +4,7 @@ ghost use Rattle.rules.specs.Models.{opposite};
 ghost use Rattle.rules.specs.Rules.{Applies, Clear, bars_nothing, floor_of};
 
 use crate::request::{Request, are_conditions, includes};
-use ladders::{Ladder, MOST_POSTS, has};
+use ladders::{Ladder, MOST_POSTS};
 use std::ops::Not;
 
 #[derive(Clone, Copy, Debug, PartialEq, Eq)]
@@ -52,8 +52,7 @@ impl Rule {
     fn clears<L: Ladder>(&self, ladder: &L, post: usize) -> bool
         ensures { Decides result (Clear (L.at_least ladder.now) post self.now.barred_posts) }
     {
-        !(0..MOST_POSTS).any(|p| has(u16::from(self.barred_posts), p as u8)
-            && ladder.at_least(post, p))
+        !(0..MOST_POSTS).any(|p| (self.barred_posts >> p) & 1 == 1 && ladder.at_least(post, p))
     }
 
     // Whether it bars no condition and no post.
@@ -67,8 +66,10 @@ impl Rule {
     pub fn floor_of<L: Ladder>(&self, ladder: &L, n: u8) -> Option<Request>
         ensures { result ≡ floor_of (L.posts ladder.now) n self.now }
     {
-        let in_range = usize::from(self.floor) < ladder.count() && are_conditions(n, self.needed);
-        (self.bars_nothing() && in_range).then_some(Request {
+        let is_floor = self.bars_nothing()
+            && usize::from(self.floor) < ladder.count()
+            && are_conditions(n, self.needed);
+        is_floor.then_some(Request {
             post: self.floor,
             set: self.needed,
         })
