@@ -6,3 +6,4 @@ pub mod Lined
 pub mod Shorter
 pub mod Picks
 pub mod Lines
+pub mod Counts

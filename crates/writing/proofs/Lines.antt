@@ -35,7 +35,7 @@ pub items_to_come_none : {p start : Pen} {n : ℕ} {whole : List ℕ} (is : List
 items_to_come_none {p} {start} {n} {whole} is e t = to-come-none (subst (λ is. ToCome p (flat_map spelled is) n start whole) e t)
 
 -- An item has at most three bytes, so a line has few.
-parted : (is js : List Item) → length (flat_map spelled (is ++ js)) ≡ length (flat_map spelled is) + length (flat_map spelled js)
+pub parted : (is js : List Item) → length (flat_map spelled (is ++ js)) ≡ length (flat_map spelled is) + length (flat_map spelled js)
 parted is js = simp (flat_map-append, length-append)
 
 short-option : (o : Option Item) → length (flat_map spelled (option_to_list o)) ≤ 3

@@ -1,129 +1,179 @@
--- What is left of a range whose numbers are looked through for the items that they give.
-use Rattle.std.proofs.Common.{◌≡◌, ℕ, zero, suc, ◌+◌, ◌-◌, ◌<◌, true, List, [], ◌∷◌, ◌++◌, length, Some, None, Option, sym, refl, ap, ◌∙◌, subst, ap₂, zero-add, arith}
-use denote.Param.Members.{Mut, Called}
-use Rattle.std.proofs.iter.Yields.{nat_range_steps}
+-- The items that the members of sets give, lowest first.
+use Rattle.std.proofs.Common.{◌≡◌, ℕ, zero, suc, ◌+◌, ◌%◌, ◌^◌, ◌<◌, ◌≤◌, Bool, true, false, cond, not, ◌||◌, eqb, List, [], ◌∷◌, ◌++◌, length, Some, None, Option, bit_and, bit_or, ◌-◌, ◌*◌, ◌/◌, min, sym, refl, ap, ◌∙◌, ap₂, ⊎_elim, append-nil, pow-suc, arith}
 use Rattle.std.specs.Bool.{⊤}
-use Rattle.std.specs.Option.{option_to_list, IfSome, MatchOption}
-use Rattle.std.specs.List.{filter_map, cons_option, range_with_len, slice_get, FoldsTo}
-use Rattle.std.specs.Iterator.{YieldsFirst, Yields, FindsMapped, MakesProgress, item_count}
-use Rattle.std.specs.Iterator.Runs.{Run, SomeRun, AllItemsGive, IsFirstToGive, YieldsRun}
-use Rattle.std.specs.declared.ops.Range.{Range}
+use Rattle.std.specs.Int.{w16, bit_at, trailing_zeros}
+use Rattle.std.specs.Option.{option_to_list}
+use Rattle.std.specs.Iterator.{YieldsFirst, MakesProgress, item_count}
+use Rattle.std.proofs.lemmas.Bool.{cases_eq, cases_lt}
+use Rattle.std.proofs.lemmas.Bool.Decides.{nat_tests}
+use Rattle.std.proofs.Math.Nat.{mod_self}
+use Rattle.std.proofs.lemmas.Nat.{and_mask, and_block, mod-pow-add, pow_pos, shr_split}
+use Rattle.std.proofs.lemmas.Nat.Bits.{bit_at-zero, bit_at_and, bit_at_cat_low, bit_at_cat_high, bit_at-trailing_zeros, same_from_bits}
+use Rattle.ladders.specs.Sets.{holds}
+use Rattle.ladders.proofs.Sets.{and-holds, or-holds, ones-hold, none-past, zero-holds}
 use Rattle.rules.specs.declared.rule.Rule.{Rule}
+use Rattle.rulefile.specs.declared.grammar.Name.TheVariants.{Condition, Post}
 use Rattle.rulefile.specs.declared.grammar.Item.{Item}
+use Rattle.rulefile.specs.Items.{item}
 use Rattle.writing.specs.Written.{floor_item, post_item, condition_item, rising, written_items}
 use Rattle.writing.specs.declared.order.Items.{Items}
-use Rattle.writing.specs.Steps.{picked, items_left}
+use Rattle.writing.specs.Steps.{Lowest, bars_post, names_condition, given_by, items_left}
 
-module _ (h : ℕ → Option Item) where
-  picked-turn : (s t : Range ℕ) → t.end ≡ s.end → 0 < s.end - s.start → t.start ≡ s.start + 1 → picked h s ≡ cons_option (h s.start) (picked h t)
-  picked-turn s t e lt b =
-      ap (λ n. filter_map h (range_with_len s.start n)) (let l : s.end - s.start ≡ suc (t.end - t.start) = omega arith in l)
-      ∙ ap (λ k. cons_option (h s.start) (filter_map h (range_with_len k (t.end - t.start)))) (sym b)
+-- numbers that give the same items
+rising-same : (f h : ℕ → Option Item) (n : ℕ) → ((k : ℕ) → k < n → f k ≡ h k) → rising f n ≡ rising h n
+unfolding rising
+rising-same f h zero each = refl
+rising-same f h (suc n) each = ap₂ (λ xs o. xs ++ option_to_list o) (rising-same f h n (λ k lt. each k (omega arith))) (each n (omega arith))
 
-  picked-none : (s : Range ℕ) → s.end - s.start ≡ 0 → picked h s ≡ []
-  picked-none s e = ap (λ n. filter_map h (range_with_len s.start n)) e
+-- numbers past m that give none
+rising-past : (f : ℕ → Option Item) (m n : ℕ) → ((k : ℕ) → m ≤ k → f k ≡ None) → rising f (n + m) ≡ rising f m
+unfolding rising
+rising-past f m zero none = ap (rising f) (let e : 0 + m ≡ m = omega arith in e)
+rising-past f m (suc n) none =
+    ap (rising f) (let e : suc n + m ≡ suc (n + m) = omega arith in e)
+    ∙ ap (λ o. rising f (n + m) ++ option_to_list o) (none (n + m) (omega arith)) ∙ append-nil (rising f (n + m)) ∙ rising-past f m n none
 
-  -- numbers that give nothing
-  passed : (xs : List ℕ) (s t : Range ℕ) → Yields nat_range_steps s xs t → ((k : ℕ) → IfSome (slice_get xs k) (λ x. h x ≡ None)) → picked h s ≡ picked h t
-  passed [] s t y each = ap (picked h) y
-  passed (x ∷ xs) s t (j, st, y) each =
-      picked-turn s j st.0 st.1.0 st.1.2 ∙ ap (λ o. cons_option o (picked h j)) (ap h (sym st.1.1) ∙ each 0) ∙ passed xs j t y (λ k. each (suc k))
+rising-none : (f : ℕ → Option Item) (n : ℕ) → ((k : ℕ) → k < n → f k ≡ None) → rising f n ≡ []
+unfolding rising
+rising-none f zero none = refl
+rising-none f (suc n) none = ap₂ (λ xs o. xs ++ option_to_list o) (rising-none f n (λ k lt. none k (omega arith))) (none n (omega arith))
 
-  module _ {F : Type 0} (g : Mut F (ℕ × Unit {0}) (Option Item)) (f : F) (acts : (x : ℕ) (r : Option Item) (q : F) → Called g f (x, tt) r q → (q ≡ f) × (r ≡ h x)) where
-    silent : (xs : List ℕ) (q : F) → FoldsTo (λ p x q. Called g p (x, tt) None q) f xs q → (q ≡ f) × ((k : ℕ) → IfSome (slice_get xs k) (λ x. h x ≡ None))
-    silent [] q e = (sym e, λ k. tt)
-    silent (x ∷ xs) q (j, call, folds) =
-        let a = acts x None j call in
-        let rest = silent xs q (subst (λ p. FoldsTo (λ p x q. Called g p (x, tt) None q) p xs q) a.0 folds) in
-        (rest.0, each (sym a.1) rest.1)
-      where
-        each : h x ≡ None → ((k : ℕ) → IfSome (slice_get xs k) (λ x. h x ≡ None)) → (k : ℕ) → IfSome (slice_get (x ∷ xs) k) (λ x. h x ≡ None)
-        each e rest zero = e
-        each e rest (suc k) = rest k
+module _ (f : ℕ → Item) where
+  abbrev give : ℕ → ℕ → Option Item
+  give set k = cond (holds set k) (Some (f k)) None
 
-    -- the number at which the search stops, from t on
-    stopped : (o : Option ℕ) (t u : Range ℕ) (r : Option Item) → nat_range_steps t o u → MatchOption o (r ≡ None) (λ x. (q : F) × Called g f (x, tt) r q) → (r ≡ None → picked h t ≡ [])
-        → YieldsFirst (picked h) t r u
-    stopped None t u r st e none =
-        subst (λ r. YieldsFirst (picked h) t r u) (sym e) (picked-none t st.1.0, picked-none u (omega arith))
-    stopped (Some x) t u r st (q, call) none =
-        let a = acts x r q call in
-        by r (picked-turn t u st.0 st.1.0 st.1.2 ∙ ap (λ o. cons_option o (picked h u)) (ap h (sym st.1.1) ∙ sym a.1)) none
-      where
-        by : (r : Option Item) → picked h t ≡ cons_option r (picked h u) → (r ≡ None → picked h t ≡ []) → YieldsFirst (picked h) t r u
-        by None e none = (none refl, sym e ∙ none refl)
-        by (Some i) e none = e
+  -- the empty set gives none
+  pub gives-none : given_by f 0 ≡ []
+  gives-none = rising-none (λ k. cond (holds 0 k) (Some (f k)) None) 16 (λ k lt. ap (λ b. cond b (Some (f k)) None) (zero-holds k))
 
-    -- nothing is left where all numbers gave nothing
-    emptied : (s : Range ℕ) → (p : Run nat_range_steps) → p.from ≡ s → p.whole ≡ true → AllItemsGive p g f None → picked h s ≡ []
-    unfolding YieldsRun
-    emptied s p from whole each =
-        let (t, y, end) = p.gave.0 in
-        let (u, st) = end whole in
-        subst (λ s. picked h s ≡ []) from
-        (passed p.items p.from t y (λ k. give (slice_get p.items k) (subst (λ o. IfSome o (λ x. Called g f (x, tt) None f)) (p.gave.1 k) (each (λ x r q call. (acts x.0 r q call).0) k)))
-        ∙ picked-none t st.1.0)
-      where
-        give : (o : Option ℕ) → IfSome o (λ x. Called g f (x, tt) None f) → IfSome o (λ x. h x ≡ None)
-        give None e = tt
-        give (Some x) call = sym (acts x None f call).1
+  module _ (set set' k : ℕ) (l : Lowest set set' k) where
+    none-yet : (n : ℕ) → n ≤ k → rising (give set) n ≡ []
+    none-yet n le = rising-none (give set) n (λ j lt. ap (λ b. cond b (Some (f j)) None) (l.least j (omega arith)))
 
-    pub found : (s : Range ℕ) (r : Option Item) (u : Range ℕ) → FindsMapped nat_range_steps g s f r u
-        → SomeRun nat_range_steps s (λ p. MatchOption r ((p.whole ≡ true) × AllItemsGive p g f None) (λ y. (i : ℕ) × (i < p.len) × (p.len ≡ i + 1) × IsFirstToGive p g f (Some y) None i))
-        → YieldsFirst (picked h) s r u
-    found s r u (xs, o, q, (t, y, st), folds, m) (p, from, run) =
-        let quiet = silent xs q folds in
-        let same = passed xs s t y quiet.1 in
-        let stop = subst (λ j. MatchOption o (r ≡ None) (λ x. (i : F) × Called g j (x, tt) r i)) quiet.0 m in
-        from-s r same (stopped o t u r st stop (λ e. sym same ∙ none r run e))
-      where
-        from-s : (r : Option Item) → picked h s ≡ picked h t → YieldsFirst (picked h) t r u → YieldsFirst (picked h) s r u
-        from-s None same e = (same ∙ e.0, e.1)
-        from-s (Some i) same e = same ∙ e
+    none-left : (n : ℕ) → n ≤ suc k → rising (give set') n ≡ []
+    none-left n le =
+        rising-none (give set') n
+        (λ j lt.
+        ap (λ b. cond b (Some (f j)) None)
+        (⊎_elim (λ (e : j ≡ k). ap (holds set') e ∙ l.out) (λ ne. l.others j (let few = l.few in omega arith) ne ∙ l.least j (omega arith)) (cases_eq j k)))
 
-        none : (r : Option Item) → MatchOption r ((p.whole ≡ true) × AllItemsGive p g f None) (λ y. (i : ℕ) × (i < p.len) × (p.len ≡ i + 1) × IsFirstToGive p g f (Some y) None i) → r ≡ None → picked h s ≡ []
-        none None run e = emptied s p from run.0 run.1
-        none (Some i) run e = absurd (cc)
+    upto : (n : ℕ) → n ≤ 16 → k < n → rising (give set) n ≡ f k ∷ rising (give set') n
+    unfolding rising
+    upto zero le lt = absurd (omega arith)
+    upto (suc n) le lt =
+        ⊎_elim
+        (λ (e : n ≡ k).
+        ap₂ (λ xs o. xs ++ option_to_list o) (none-yet n (omega arith)) (ap (give set) e ∙ ap (λ b. cond b (Some (f k)) None) l.member)
+        ∙ ap (λ xs. f k ∷ xs) (sym (none-left (suc n) (omega arith))))
+        (λ ne. ap₂ (λ xs o. xs ++ option_to_list o) (upto n (omega arith) (omega arith)) (ap (λ b. cond b (Some (f n)) None) (sym (l.others n (omega arith) ne))))
+        (cases_eq n k)
+
+    -- and another the item of its lowest member first
+    pub gives-lowest : given_by f set ≡ f k ∷ given_by f set'
+    gives-lowest = upto 16 (omega arith) l.few
+
+-- a set without members below n
+low-none : (s n : ℕ) → ((j : ℕ) → j < n → bit_at s j ≡ 0) → s % 2 ^ n ≡ 0
+low-none s zero none = omega arith
+low-none s (suc n) none =
+    ap (λ k. s % 2 ^ k) (let e : suc n ≡ 1 + n = omega arith in e)
+    ∙ mod-pow-add s 1 n
+    ∙ ap₂ (λ b r. b * 2 ^ n + r) (none n (omega arith)) (low-none s n (λ j lt. none j (omega arith)))
+    ∙ (let e : 0 * 2 ^ n + 0 ≡ 0 = omega arith in e)
+
+-- A set whose lowest member is k, and one less: above k both have the same members, and no member is in both up to k.
+module _ (s k : ℕ) (one : bit_at s k ≡ 1) (none : (j : ℕ) → j < k → bit_at s j ≡ 0) where
+  abbrev above : ℕ
+  above = s / 2 ^ (1 + k)
+
+  split : s ≡ above * 2 ^ (1 + k) + 2 ^ k
+  split =
+      sym (shr_split s (1 + k))
+      ∙ ap (λ r. above * 2 ^ (1 + k) + r)
+      (mod-pow-add s 1 k ∙ ap₂ (λ b r. b * 2 ^ k + r) one (low-none s k none) ∙ (let e : 1 * 2 ^ k + 0 ≡ 2 ^ k = omega arith in e))
+
+  one-less : s - 1 ≡ above * 2 ^ (1 + k) + (2 ^ k - 1)
+  one-less = let e = split in let pos = pow_pos k in omega arith
+
+  in-both : bit_and above above ≡ above
+  in-both = same_from_bits (bit_and above above) above (λ i. bit_at_and above above i ∙ (let e : min (bit_at above i) (bit_at above i) ≡ bit_at above i = omega arith in e))
+
+  without : bit_and s (s - 1) ≡ above * 2 ^ (1 + k) + 0
+  without =
+      let pos = pow_pos k in
+      let twice = pow-suc 2 k in
+      let e : 1 + k ≡ suc k = omega arith in
+      let more = ap (λ n. 2 ^ n) e in
+      ap₂ bit_and split one-less
+      ∙ and_block (1 + k) above above (2 ^ k) (2 ^ k - 1) (omega arith) (omega arith)
+      ∙ ap₂ (λ a r. a * 2 ^ (1 + k) + r) in-both (and_mask (2 ^ k) k ∙ mod_self (2 ^ k))
+
+  kept : (j : ℕ) → k < j → bit_at (bit_and s (s - 1)) j ≡ bit_at s j
+  kept j lt =
+      let pos = pow_pos k in
+      let twice = pow-suc 2 k in
+      let e : 1 + k ≡ suc k = omega arith in
+      let more = ap (λ n. 2 ^ n) e in
+      ap (λ x. bit_at x j) without
+      ∙ bit_at_cat_high above (1 + k) 0 j (omega arith) (omega arith)
+      ∙ sym (bit_at_cat_high above (1 + k) (2 ^ k) j (omega arith) (omega arith))
+      ∙ ap (λ x. bit_at x j) (sym split)
+
+  gone : (j : ℕ) → j ≤ k → bit_at (bit_and s (s - 1)) j ≡ 0
+  gone j le = ap (λ x. bit_at x j) without ∙ bit_at_cat_low above (1 + k) 0 j (omega arith) ∙ bit_at-zero j
+
+-- a set that is not empty, by its trailing zeros
+pub lowest-of : (s : ℕ) → 0 < s → s < 2 ^ 16 → Lowest s (bit_and s (s - 1)) (trailing_zeros w16 s)
+lowest-of s pos small =
+    let k = trailing_zeros w16 s in
+    let z = bit_at-trailing_zeros w16 s pos small in
+    let out = gone s k z.1 z.2 in
+    record {
+      few = z.0;
+      member = ap (λ x. eqb x 1) z.1;
+      least = λ j lt. ap (λ x. eqb x 1) (z.2 j lt);
+      out = ap (λ x. eqb x 1) (out k (omega arith));
+      others = λ j _ ne. ap (λ x. eqb x 1) (⊎_elim (λ (lt : j < k). out j (omega arith) ∙ sym (z.2 j lt)) (λ (le : k ≤ j). kept s k z.1 z.2 j (omega arith)) (cases_lt j k));
+    }
 
 -- an item more from the posts, or one from the conditions
 pub left-post : (o o' : Option Item) (xs ys zs : List Item) (i : Item) → o ≡ None → o' ≡ None → xs ≡ i ∷ ys → option_to_list o ++ (xs ++ zs) ≡ i ∷ (option_to_list o' ++ (ys ++ zs))
 left-post o o' xs ys zs i e e' p = rw (e, e', p)
 
-front : (o : Option Item) (xs ys : List Item) → o ≡ None → xs ≡ [] → option_to_list o ++ (xs ++ ys) ≡ ys
+pub front : (o : Option Item) (xs ys : List Item) → o ≡ None → xs ≡ [] → option_to_list o ++ (xs ++ ys) ≡ ys
 front o xs ys e p = rw (e, p)
-
-pub left-condition : (o o' : Option Item) (xs xs' ys ys' : List Item) (r : Option Item) → o ≡ None → o' ≡ None → xs ≡ [] → xs' ≡ []
-    → MatchOption r ((ys ≡ []) × (ys' ≡ [])) (λ i. ys ≡ i ∷ ys')
-    → MatchOption r ((option_to_list o ++ (xs ++ ys) ≡ []) × (option_to_list o' ++ (xs' ++ ys') ≡ [])) (λ i. option_to_list o ++ (xs ++ ys) ≡ i ∷ (option_to_list o' ++ (xs' ++ ys')))
-left-condition o o' xs xs' ys ys' None e e' p p' h = (front o xs ys e p ∙ h.0, front o' xs' ys' e' p' ∙ h.1)
-left-condition o o' xs xs' ys ys' (Some i) e e' p p' h = front o xs ys e p ∙ h ∙ ap (λ zs. i ∷ zs) (sym (front o' xs' ys' e' p'))
 
 pub progress : (s t : Items) (r : Option Item) → YieldsFirst items_left s r t → MakesProgress (λ _. ⊤) (item_count items_left) s r t
 progress s t None e = record { on = λ _. tt; keeps = tt; rests = λ _. tt }
 progress s t (Some i) e = record { on = λ _. (tt, tt, let l = ap length e in omega arith); keeps = tt; rests = λ _. tt }
 
--- the items of rising numbers are what f gives for a range
-cons-append : (o : Option Item) (xs ys : List Item) → cons_option o (xs ++ ys) ≡ cons_option o xs ++ ys
-cons-append None xs ys = refl
-cons-append (Some i) xs ys = refl
-
-cons-nil : (o : Option Item) → cons_option o [] ≡ option_to_list o
-cons-nil None = refl
-cons-nil (Some i) = refl
-
-last-picked : (f : ℕ → Option Item) (a n : ℕ) → filter_map f (range_with_len a (suc n)) ≡ filter_map f (range_with_len a n) ++ option_to_list (f (a + n))
-last-picked f a zero = cons-nil (f a) ∙ ap (λ k. option_to_list (f k)) (let e : a ≡ a + 0 = omega arith in e)
-last-picked f a (suc n) =
-    ap (cons_option (f a)) (last-picked f (a + 1) n ∙ ap (λ k. filter_map f (range_with_len (a + 1) n) ++ option_to_list (f k)) (let e : (a + 1) + n ≡ a + suc n = omega arith in e))
-    ∙ cons-append (f a) (filter_map f (range_with_len (a + 1) n)) (option_to_list (f (a + suc n)))
-
-rising-picked : (f : ℕ → Option Item) (n : ℕ) → filter_map f (range_with_len 0 n) ≡ rising f n
-unfolding rising
-rising-picked f zero = refl
-rising-picked f (suc n) =
-    last-picked f 0 n ∙ ap₂ (λ xs k. xs ++ option_to_list (f k)) (rising-picked f n) (zero-add n)
-
 -- at the start all items are to come
-pub left-all : (t : Rule) (o : Option Item) → o ≡ floor_item t → option_to_list o ++ (filter_map (post_item t) (range_with_len 0 8) ++ filter_map (condition_item t) (range_with_len 0 9)) ≡ written_items t
-left-all t o e =
-    ap₂ (λ o xs. option_to_list o ++ xs) e (ap₂ (λ xs ys. xs ++ ys) (rising-picked (post_item t) 8) (rising-picked (condition_item t) 9))
+module _ (t : Rule) where
+  posts-all : t.barred_posts < 2 ^ 8 → given_by bars_post t.barred_posts ≡ rising (post_item t) 8
+  posts-all small =
+      rising-past (post_item t) 8 8
+      (λ k le. ap (λ b. cond b (Some (item true (Post k))) None) (none-past t.barred_posts 8 k small le))
+
+  named : (k : ℕ) → k < 9 → holds (bit_or t.needed t.barred % 2 ^ 9) k ≡ (holds t.needed k || holds t.barred k)
+  named k lt =
+      ap (λ s. holds s k) (sym (and_mask (bit_or t.needed t.barred) 9))
+      ∙ and-holds (bit_or t.needed t.barred) (2 ^ 9 - 1) k
+      ∙ (let all = ones-hold 9 k lt in let either = or-holds t.needed t.barred k in grind (arith, nat_tests))
+
+  either-item : (a b : Bool) (k : ℕ) → cond (a || b) (Some (item (not a) (Condition k))) None ≡ cond a (Some (item false (Condition k))) (cond b (Some (item true (Condition k))) None)
+  either-item true b k = refl
+  either-item false true k = refl
+  either-item false false k = refl
+
+  conditions-all : given_by (names_condition t.needed) (bit_or t.needed t.barred % 2 ^ 9) ≡ rising (condition_item t) 9
+  conditions-all =
+      let set : ℕ = bit_or t.needed t.barred % 2 ^ 9 in
+      rising-past (λ k. cond (holds set k) (Some (item (not (holds t.needed k)) (Condition k))) None) 9 7
+      (λ k le. ap (λ b. cond b (Some (item (not (holds t.needed k)) (Condition k))) None) (none-past set 9 k (omega arith) le))
+      ∙ rising-same (λ k. cond (holds set k) (Some (item (not (holds t.needed k)) (Condition k))) None) (condition_item t) 9
+      (λ k lt. ap (λ b. cond b (Some (item (not (holds t.needed k)) (Condition k))) None) (named k lt) ∙ either-item (holds t.needed k) (holds t.barred k) k)
+
+  pub left-all : (o : Option Item) (posts conditions : ℕ) → t.barred_posts < 2 ^ 8 → posts ≡ t.barred_posts → o ≡ floor_item t → conditions ≡ bit_or t.needed t.barred % 2 ^ 9
+      → option_to_list o ++ (given_by bars_post posts ++ given_by (names_condition t.needed) conditions) ≡ written_items t
+  left-all o posts conditions small same e f =
+      ap₂ (λ o xs. option_to_list o ++ xs) e (ap₂ (λ xs ys. xs ++ ys) (ap (given_by bars_post) same ∙ posts-all small) (ap (given_by (names_condition t.needed)) f ∙ conditions-all))

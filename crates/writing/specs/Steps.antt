@@ -1,15 +1,15 @@
 -- What the inner functions of writing answer, step by step. No public contract cites it.
-use Rattle.std.specs.Prelude.{◌≡◌, ℕ, ◌+◌, ◌-◌, ◌<◌, ◌≤◌, true, false, List, ◌++◌, length, take, drop, Option}
-use Rattle.std.specs.List.{AllByRecursion, filter_map, range_with_len}
+use Rattle.std.specs.Prelude.{◌≡◌, ℕ, ◌+◌, ◌<◌, ◌≤◌, true, false, cond, not, List, ◌++◌, length, take, drop, Some, None}
+use Rattle.std.specs.List.{AllByRecursion}
 use Rattle.std.specs.Option.{option_to_list}
-use Rattle.std.specs.declared.ops.Range.{Range}
 use Rattle.ladders.specs.Sets.{holds}
 use Rattle.rules.specs.declared.rule.Rule.{Rule}
 use Rattle.rules.specs.Letters.{Counts}
 use Rattle.rulefile.specs.declared.grammar.Grammar.{Grammar}
 use Rattle.rulefile.specs.declared.grammar.Item.{Item}
-use Rattle.rulefile.specs.Items.{Known}
-use Rattle.writing.specs.Written.{post_item, condition_item, written_items}
+use Rattle.rulefile.specs.declared.grammar.Name.TheVariants.{Condition, Post}
+use Rattle.rulefile.specs.Items.{Known, item}
+use Rattle.writing.specs.Written.{rising, written_items}
 use Rattle.writing.specs.declared.order.Items.{Items}
 use Rattle.writing.specs.declared.pen.Pen.{Pen}
 
@@ -39,13 +39,29 @@ pub record CanSay (g : Grammar) (t : Rule) : Type 0 where
   pub once : NamesOnce t
   pub allowed : Counts g.letter t
 
--- the items that f gives for the numbers of a range
-abbrev pub picked : (ℕ → Option Item) → Range ℕ → List Item
-picked f r = filter_map f (range_with_len r.start (r.end - r.start))
+-- k is the lowest member of the set, and set' is the set without it
+pub record Lowest (set set' k : ℕ) : Type 0 where
+  pub few : k < 16
+  pub member : holds set k ≡ true
+  pub least : (j : ℕ) → j < k → holds set j ≡ false
+  pub out : holds set' k ≡ false
+  pub others : (j : ℕ) → j < 16 → (j ≡ k → ⊥) → holds set' j ≡ holds set j
+
+-- a barred post, and a condition that is written plain where it is needed
+abbrev pub bars_post : ℕ → Item
+bars_post p = item true (Post p)
+
+abbrev pub names_condition : ℕ → ℕ → Item
+names_condition needed c = item (not (holds needed c)) (Condition c)
+
+-- the items that f gives for the members of a set of 16 bits
+abbrev pub given_by : (ℕ → Item) → ℕ → List Item
+given_by f set = rising (λ k. cond (holds set k) (Some (f k)) None) 16
 
 -- the items of a rule that are still to come
 abbrev pub items_left : Items → List Item
-items_left s = option_to_list s.floor ++ (picked (post_item s.rule.now) s.posts ++ picked (condition_item s.rule.now) s.conditions)
+items_left s =
+    option_to_list s.floor ++ (given_by bars_post s.barred_posts ++ given_by (names_condition s.needed) s.conditions)
 
 -- the bytes ys written over xs from the place `at` on
 abbrev pub over : List ℕ → ℕ → List ℕ → List ℕ

@@ -1,14 +1,16 @@
 // The items of a rule in the order in which they are written.
-ghost use Rattle.std.specs.Prelude.{◌≡◌};
+ghost use Rattle.std.specs.Prelude.{◌≡◌, ◌%◌, ◌^◌, MatchOption, bit_or};
 ghost use Rattle.std.specs.Iterator.{YieldsFirst, item_count};
 ghost use Rattle.rulefile.specs.Items.{item};
-ghost use Rattle.writing.specs.Written.{floor_item, post_item, condition_item, written_items};
-ghost use Rattle.writing.specs.Steps.{items_left};
+ghost use Rattle.writing.specs.Written.{floor_item, written_items};
+ghost use Rattle.writing.specs.Steps.{Lowest, items_left};
 
-use ladders::{MOST_POSTS, has};
+use ladders::has;
 use rulefile::{Item, Name};
 use rules::{MOST_CONDITIONS, Rule};
-use std::ops::Range;
+
+// The conditions that have a letter.
+pub(crate) const LETTERED: u16 = (1 << MOST_CONDITIONS) - 1;
 
 // An item by its parts. The flag is that of `Item`: both kinds have a name.
 fn item(barred: bool, name: Name) -> Item
@@ -23,43 +25,51 @@ fn floor_item(rule: &Rule) -> Option<Item>
     (rule.floor != 0).then_some(item(false, Name::Post(rule.floor)))
 }
 
-fn post_item(rule: &Rule, p: u8) -> Option<Item>
-    ensures { result ≡ post_item rule.now p }
+// The conditions that are written, plain or with a `!`.
+pub(crate) fn named_conditions(rule: &Rule) -> u16
+    ensures { result ≡ bit_or rule.now.needed rule.now.barred % 2 ^ 9 }
 {
-    has(u16::from(rule.barred_posts), p).then_some(item(true, Name::Post(p)))
+    (rule.needed | rule.barred) & LETTERED
 }
 
-fn condition_item(rule: &Rule, c: u8) -> Option<Item>
-    ensures { result ≡ condition_item rule.now c }
+// Takes the lowest member out of a set.
+fn take_lowest(set: &mut u16) -> Option<u8>
+    ensures { MatchOption result ((set.old ≡ 0) × (set.new ≡ 0)) (Lowest set.old set.new) }
 {
-    let name = Name::Condition(c);
-    let needed = has(rule.needed, c).then_some(item(false, name));
-    needed.or(has(rule.barred, c).then_some(item(true, name)))
+    let whole = *set;
+    if whole == 0 {
+        return None;
+    }
+    // one less has the same members above the lowest, and not the lowest; those that it has below, the set has not
+    *set = whole & (whole - 1);
+    Some(whole.trailing_zeros() as u8)
 }
 
-// The items that are still to come: the floor post, then barred posts by rising number, then conditions by letter.
+// The items that are still to come: the floor post, then barred posts by rising number, then conditions by letter. Posts and conditions are sets,
+// out of which the lowest member is taken, so that no number is looked at that gives no item.
 #[derive(Drop)]
-pub(crate) struct Items<'a> {
-    rule: &'a Rule,
+pub(crate) struct Items {
     floor: Option<Item>,
-    posts: Range<u8>,
-    conditions: Range<u8>,
+    barred_posts: u16,
+    conditions: u16,
+    // the conditions that are written plain, each other one with a `!`
+    needed: u16,
 }
 
-impl<'a> Items<'a> {
-    pub(crate) fn of(rule: &'a Rule) -> Items<'a>
+impl Items {
+    pub(crate) fn of(rule: &Rule) -> Items
         ensures { items_left result ≡ written_items rule.now }
     {
         Items {
-            rule,
             floor: floor_item(rule),
-            posts: 0..MOST_POSTS as u8,
-            conditions: 0..MOST_CONDITIONS,
+            barred_posts: u16::from(rule.barred_posts),
+            conditions: named_conditions(rule),
+            needed: rule.needed,
         }
     }
 }
 
-impl Iterator for Items<'_> {
+impl Iterator for Items {
     type Item = Item;
 
     ghost next_gives = { YieldsFirst items_left };
@@ -67,13 +77,13 @@ impl Iterator for Items<'_> {
     ghost remaining = { item_count items_left };
 
     fn next(&mut self) -> Option<Item> {
-        let rule = self.rule;
         if let Some(item) = self.floor.take() {
             return Some(item);
         }
-        if let Some(item) = self.posts.find_map(|p| post_item(rule, p)) {
-            return Some(item);
+        if let Some(p) = take_lowest(&mut self.barred_posts) {
+            return Some(item(true, Name::Post(p)));
         }
-        self.conditions.find_map(|c| condition_item(rule, c))
+        let c = take_lowest(&mut self.conditions)?;
+        Some(item(!has(self.needed, c), Name::Condition(c)))
     }
 }
