@@ -23,7 +23,7 @@ impl Flags {
 
     // The flags that a test puts up.
     pub(crate) fn of<F: Fn(usize) -> bool>(test: F) -> Flags
-        requires { F.IsAlwaysCallable test }
+        requires { (r : ℕ) → r < 4096 → F.pre test r }
         ensures { (r : ℕ) → r < 4096 → F.post test r (flag result r) }
     {
         Flags {
@@ -31,11 +31,12 @@ impl Flags {
         }
     }
 
-    // Whether a flag is up; one past them all is not.
+    // Whether a flag is up.
     pub(crate) fn has(&self, r: usize) -> bool
+        requires { r < 4096 }
         ensures { result ≡ flag self.now r }
     {
-        self.up.get(r) == Some(&true)
+        self.up[r]
     }
 
     // Puts one flag up.
