@@ -1,10 +1,10 @@
 // The floors of the list that decides as a policy does, or what stands in its way, from the requests that are led.
-ghost use Rattle.std.specs.Prelude.{ℕ, ◌<◌, false, Err, MatchOption};
+ghost use Rattle.std.specs.Prelude.{ℕ, ◌<◌, true, false, Err, MatchOption};
 ghost use Rattle.expressiveness.specs.Order.{Least, Minimal};
 ghost use Rattle.rules.specs.Models.{default_overrides};
 ghost use Rattle.conversion.specs.Flags.{Up};
 ghost use Rattle.conversion.specs.Beyond.{Beyond, OverIn};
-ghost use Rattle.conversion.specs.Shapes.{AnyStep, FirstBeyond, Flagged, In, Lower, Shaped};
+ghost use Rattle.conversion.specs.Shapes.{AnyStep, FirstBeyond, Flagged, In, Lower, Shaped, Unled};
 
 use crate::around::Around;
 use crate::flags::Flags;
@@ -44,18 +44,19 @@ impl Order {
     }
 
     // The lower requests of steps: led, with one above that is not.
-    fn lowers(&self, led: &Flags) -> Flags
+    fn lowers(&self, led: &Flags, unled: &Flags) -> Flags
+        requires { Unled led.now unled.now }
         ensures { Flagged self.now (Lower self.now led.now) result }
     {
-        *led & self.beyond(Side::Above, &!*led)
+        *led & self.beyond(Side::Above, unled)
     }
 
     // The first step.
     fn first_step(&self, led: &Flags) -> Option<Unconverted>
         ensures { MatchOption result (AnyStep self.now led.now → ⊥) (λ step. Shaped self.now false led.now (Err step)) }
     {
-        let lower = self.first_up(&self.lowers(led))?;
         let unled = !*led;
+        let lower = self.first_up(&self.lowers(led, &unled))?;
         let upper = self.first_beyond(Side::Above, lower, &unled)?;
         Some(Unconverted::Step { upper, lower })
     }
@@ -74,12 +75,25 @@ impl Order {
         })
     }
 
+    // The floors where the default overrides, or the first gap.
+    fn convex_floors(&self, led: &Flags) -> Result<FloorFlags, Unconverted>
+        ensures { Shaped self.now true led.now result }
+    {
+        Around {
+            order: self,
+            led,
+            above: &self.beyond(Side::Above, led),
+            below: &self.beyond(Side::Below, led),
+        }
+        .floors()
+    }
+
     // The floors of the defined list of a model, or what stands in its way.
     pub(crate) fn floors(&self, model: Model, led: &Flags) -> Result<FloorFlags, Unconverted>
         ensures { Shaped self.now (default_overrides model) led.now result }
     {
         if model.default_overrides() {
-            Around::of(self, led).floors()
+            self.convex_floors(led)
         } else {
             self.upward_floors(led)
         }
