@@ -10,12 +10,16 @@ use Rattle.conversion.specs.declared.side.Side.{Side}
 use Rattle.conversion.specs.declared.side.Side.TheVariants.{Above, Below}
 use Rattle.conversion.specs.Flags.{Up, flag}
 use Rattle.conversion.specs.Beyond.{Beyond, OverIn, Tells}
-use Rattle.conversion.specs.Shapes.{AnyGap, AnyStep, FirstBeyond, Flagged, In, Lower, Middle, Unled}
+use Rattle.conversion.specs.Shapes.{AnyGap, AnyStep, FirstBeyond, Flagged, In, Lower, Middle}
 use Rattle.conversion.proofs.Links.{plain}
 
 pub beyond-inside : (o : Order) (side : Side) (x y : ℕ) → Beyond o side x y → (x < o.total) × (y < o.total)
 beyond-inside o Above x y h = let (a, b) = (plain o).within y x h.0 in (b, a)
 beyond-inside o Below x y h = (plain o).within x y h.0
+
+-- the flags of what is not led
+abbrev Unled : Flags → Flags → Type 0
+Unled led unled = (k : ℕ) → k < 4096 → flag unled k ≡ not (flag led k)
 
 -- a flag tells of itself
 itself : (b : Bool) → Decides b (b ≡ true)

@@ -1,5 +1,5 @@
 -- What stands in the way of a list, and its floors, told from the flags of the led requests. Only inner functions cite this.
-use Rattle.std.specs.Prelude.{◌≡◌, ℕ, ◌<◌, Bool, true, false, not, cond, Ok, Err, Decides, Result}
+use Rattle.std.specs.Prelude.{◌≡◌, ℕ, ◌<◌, Bool, true, false, cond, Ok, Err, Decides, Result}
 use Rattle.expressiveness.specs.Order.{CounterFloor, FirstGap, FirstStep, Gap as IsGap, LeadFloor, Least, Step as IsStep}
 use Rattle.conversion.specs.declared.flags.Flags.{Flags}
 use Rattle.conversion.specs.declared.floors.FloorFlags.{FloorFlags}
@@ -22,10 +22,6 @@ FirstBeyond o side x members = Least (λ y. Beyond o side x y × Up members y)
 -- The flags tell which requests have the property P.
 abbrev pub Flagged : Order → (ℕ → Type 0) → Flags → Type 0
 Flagged o P xs = (x : ℕ) → x < o.total → Decides (flag xs x) (P x)
-
--- The flags of what is not led.
-abbrev pub Unled : Flags → Flags → Type 0
-Unled led unled = (k : ℕ) → k < 4096 → flag unled k ≡ not (flag led k)
 
 -- x is the middle of a gap.
 abbrev pub Middle : Order → Flags → ℕ → Type 0

@@ -27,21 +27,21 @@ impl Around<'_> {
     fn lowest_led(&self) -> Flags
         ensures { Flagged self.now.order.now (LeadFloor (OverIn self.now.order.now) (In self.now.order.now self.now.led.now)) result }
     {
-        *self.led & !*self.below
+        self.led & &!self.below
     }
 
     // The lowest hopeless requests: not led, with none led above.
     fn lowest_hopeless(&self) -> Flags
         ensures { Flagged self.now.order.now (CounterFloor (OverIn self.now.order.now) (In self.now.order.now self.now.led.now)) result }
     {
-        self.order.lowest(&(!*self.led & !*self.above))
+        self.order.lowest(&(&!self.led & &!self.above))
     }
 
     // The middles of gaps: not led, with a led request above and one below.
     fn middles(&self) -> Flags
         ensures { Flagged self.now.order.now (Middle self.now.order.now self.now.led.now) result }
     {
-        !*self.led & (*self.above & *self.below)
+        &!self.led & &(self.above & self.below)
     }
 
     // The first gap.

@@ -48,22 +48,22 @@ impl Flags {
     }
 }
 
-// The flags that are up in both.
-impl BitAnd for Flags {
+// The flags that are up in both. Flags are lent to an operator, since a copy of them is long.
+impl BitAnd for &Flags {
     type Output = Flags;
 
-    ghost bitand_gives = { λ a b both. (r : ℕ) → r < 4096 → flag both r ≡ (flag a r && flag b r) };
+    ghost bitand_gives = { λ a b both. (r : ℕ) → r < 4096 → flag both r ≡ (flag a.now r && flag b.now r) };
 
-    fn bitand(self, other: Flags) -> Flags {
+    fn bitand(self, other: &Flags) -> Flags {
         Flags::of(|r| self.has(r) && other.has(r))
     }
 }
 
 // The flags that are not up.
-impl Not for Flags {
+impl Not for &Flags {
     type Output = Flags;
 
-    ghost not_gives = { λ a opposite. (r : ℕ) → r < 4096 → flag opposite r ≡ not (flag a r) };
+    ghost not_gives = { λ a opposite. (r : ℕ) → r < 4096 → flag opposite r ≡ not (flag a.now r) };
 
     fn not(self) -> Flags {
         Flags::of(|r| !self.has(r))

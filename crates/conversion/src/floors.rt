@@ -4,7 +4,7 @@ ghost use Rattle.expressiveness.specs.Order.{Least, Minimal};
 ghost use Rattle.rules.specs.Models.{default_overrides};
 ghost use Rattle.conversion.specs.Flags.{Up};
 ghost use Rattle.conversion.specs.Beyond.{Beyond, OverIn};
-ghost use Rattle.conversion.specs.Shapes.{AnyStep, FirstBeyond, Flagged, In, Lower, Shaped, Unled};
+ghost use Rattle.conversion.specs.Shapes.{AnyStep, FirstBeyond, Flagged, In, Lower, Shaped};
 
 use crate::around::Around;
 use crate::flags::Flags;
@@ -40,23 +40,22 @@ impl Order {
     pub(crate) fn lowest(&self, members: &Flags) -> Flags
         ensures { Flagged self.now (Minimal (OverIn self.now) (In self.now members.now)) result }
     {
-        *members & !self.beyond(Side::Below, members)
+        members & &!&self.beyond(Side::Below, members)
     }
 
     // The lower requests of steps: led, with one above that is not.
-    fn lowers(&self, led: &Flags, unled: &Flags) -> Flags
-        requires { Unled led.now unled.now }
+    fn lowers(&self, led: &Flags) -> Flags
         ensures { Flagged self.now (Lower self.now led.now) result }
     {
-        *led & self.beyond(Side::Above, unled)
+        led & &self.beyond(Side::Above, &!led)
     }
 
     // The first step.
     fn first_step(&self, led: &Flags) -> Option<Unconverted>
         ensures { MatchOption result (AnyStep self.now led.now → ⊥) (λ step. Shaped self.now false led.now (Err step)) }
     {
-        let unled = !*led;
-        let lower = self.first_up(&self.lowers(led, &unled))?;
+        let lower = self.first_up(&self.lowers(led))?;
+        let unled = !led;
         let upper = self.first_beyond(Side::Above, lower, &unled)?;
         Some(Unconverted::Step { upper, lower })
     }

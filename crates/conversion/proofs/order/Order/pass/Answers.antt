@@ -1,4 +1,4 @@
-use Rattle.std.proofs.Common.{sym, ◌∙◌, inl, inr}
+use Rattle.std.proofs.Common.{sym, ◌∙◌, inl, inr, arith}
 use Rattle.std.proofs.lemmas.Bool.{false≢true}
 use Rattle.conversion.proofs.Passes.{ends-inside, passed-more, passed-skip, passed-stay}
 use Rattle.conversion.proofs.order.Order.pass.Goals as goal
@@ -6,18 +6,21 @@ use Rattle.conversion.proofs.order.Order.pass.Goals.{in-Some+then-has, then-has-
 
 pub has-requires : goal.has-requires
 has-requires g c =
-    (ends-inside c.args.self.now c.args.side c.in-Some.upper c.loop-lower.lower c.turned-marked.result c.turned-marked.ensures
-    (c.requires.up c.loop-lower.lower c.in-Some.upper c.loop-lower-test.true c.in-Some.ensures)).1
+    let ((marked, source), (upper, lower)) = ends-inside c.args.self.now c.args.side c.in-Some.upper c.loop-lower.lower c.turned-marked.result c.turned-marked.ensures
+    (c.requires.up c.loop-lower.lower c.in-Some.upper c.loop-lower-test.true c.in-Some.ensures) in
+    omega arith
 
 pub has-requires-else-has : goal.has-requires-else-has
 has-requires-else-has g c =
-    (ends-inside c.args.self.now c.args.side c.in-Some.upper c.loop-lower.lower c.turned-marked.result c.turned-marked.ensures
-    (c.requires.up c.loop-lower.lower c.in-Some.upper c.loop-lower-test.true c.in-Some.ensures)).1
+    let ((marked, source), (upper, lower)) = ends-inside c.args.self.now c.args.side c.in-Some.upper c.loop-lower.lower c.turned-marked.result c.turned-marked.ensures
+    (c.requires.up c.loop-lower.lower c.in-Some.upper c.loop-lower-test.true c.in-Some.ensures) in
+    omega arith
 
 pub raise-requires : goal.raise-requires
 raise-requires g c =
-    (ends-inside c.args.self.now c.args.side c.in-Some.upper c.loop-lower.lower c.turned-marked.result c.turned-marked.ensures
-    (c.requires.up c.loop-lower.lower c.in-Some.upper c.loop-lower-test.true c.in-Some.ensures)).0
+    let ((marked, source), (upper, lower)) = ends-inside c.args.self.now c.args.side c.in-Some.upper c.loop-lower.lower c.turned-marked.result c.turned-marked.ensures
+    (c.requires.up c.loop-lower.lower c.in-Some.upper c.loop-lower-test.true c.in-Some.ensures) in
+    omega arith
 
 pub loop-lower-preserved : goal.loop-lower-preserved
 loop-lower-preserved g c =
