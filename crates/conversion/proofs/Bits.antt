@@ -1,11 +1,10 @@
 -- The bits of a number: one of them more, one less, and those below some place.
-use Rattle.std.proofs.Common.{◌≡◌, ℕ, ◌+◌, ◌-◌, ◌*◌, ◌/◌, ◌%◌, ◌^◌, ◌<◌, ◌≤◌, true, false, cond, ◌&&◌, ◌||◌, None, Some, eqb, sym, refl, ap, ◌∙◌, subst, ap₂, ⊎_elim, add-mul, arith, pow_pos}
+use Rattle.std.proofs.Common.{◌≡◌, ℕ, ◌+◌, ◌-◌, ◌*◌, ◌/◌, ◌%◌, ◌^◌, ◌<◌, ◌≤◌, true, false, ◌&&◌, ◌||◌, eqb, sym, refl, ap, ◌∙◌, subst, ⊎_elim, add-mul, arith, pow_pos}
 use native.Mathlib.Nat.{div-eq_of_lt}
 use lib.Bits.{bit_and, bit_or, and_zero_r}
-use Rattle.std.proofs.lemmas.Nat.{and_mask, div-add-mod', div-mul-add, mod_below, mod-mul-add, one_shl, or_disjoint, or_lt, or_shr, pow_below, shr-shr, shr_split}
-use Rattle.std.proofs.lemmas.Bool.{cases_lt, eqb-true, false≢true, le-leb, lt-ltb, ne_eqb}
+use Rattle.std.proofs.lemmas.Nat.{and_mask, div-add-mod', div-mul-add, mod_below, mod-mul-add, or_disjoint, or_shr, pow_below, shr-shr, shr_split}
+use Rattle.std.proofs.lemmas.Bool.{cases_lt, eqb-true, false≢true, ne_eqb}
 use Rattle.ladders.specs.Sets.{holds}
-use Rattle.rules.specs.Requests.{are_conditions, number_of}
 use Rattle.ladders.proofs.Sets.{and-holds, and_none, bits-same, ones-hold, or-holds, power-holds}
 
 -- a bit that is missing
@@ -57,16 +56,3 @@ same_number n x y e h = bits-same x y (λ d. ⊎_elim (h d) (λ (le : n ≤ d). 
   where
     high : (k : ℕ) → holds x (n + k) ≡ holds y (n + k)
     high k = ap (λ z. eqb (z % 2) 1) (sym (shr-shr x n k) ∙ ap (λ z. z / 2 ^ k) e ∙ shr-shr y n k)
-
--- the number of a request with one condition more
-pub put-in : (n x c : ℕ) → n ≤ 9 → c < n → holds x c ≡ false
-    → number_of n (record { post = x / 2 ^ n; set = bit_or (x % 2 ^ n) ((1 * 2 ^ c) % 2 ^ 16) }) ≡ Some (x + 2 ^ c)
-put-in n x c few lt lacking =
-    let low : ℕ = x % 2 ^ n in
-    let set : ℕ = bit_or low (2 ^ c) in
-    let below = or_lt n low (2 ^ c) (mod_below x (2 ^ n) (pow_pos n)) (pow_below c n lt) in
-    let sum : set ≡ low + 2 ^ c = or_disjoint low (2 ^ c) (lacks low c (low-holds n x c lt ∙ lacking)) in
-    let fits : are_conditions n set ≡ true = ap₂ (λ p q. p && q) (le-leb n 9 few) (lt-ltb set (2 ^ n) below) in
-    ap (λ b. number_of n (record { post = x / 2 ^ n; set = bit_or low b })) (one_shl c 16 (omega arith))
-    ∙ ap (λ b. cond b (Some (x / 2 ^ n * 2 ^ n + set)) None) fits
-    ∙ ap Some (omega (arith, sum, div-add-mod' x (2 ^ n)))

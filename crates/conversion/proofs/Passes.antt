@@ -33,10 +33,13 @@ turned-inside : (o : Order) (side : Side) (x y : ℕ) → x < o.total → y < o.
 turned-inside o Above x y a b = (b, a)
 turned-inside o Below x y a b = (a, b)
 
-pub above-inside : (o : Order) (side : Side) (upper lower : ℕ) → IsAbove (OverIn o) upper lower → ((turned side upper lower).0 < 4096)
-above-inside o side upper lower h =
+-- both ends of a step up are numbers of requests, turned round or not
+pub ends-inside : (o : Order) (side : Side) (upper lower : ℕ) (ends : ℕ × ℕ) → ends ≡ turned side upper lower → IsAbove (OverIn o) upper lower
+    → ((ends.0 < 4096) × (ends.1 < 4096)) × ((upper < 4096) × (lower < 4096))
+ends-inside o side upper lower ends are h =
     let within = (plain o).within upper lower h.0 in
-    omega (arith, o.most, (turned-inside o side upper lower within.0 within.1).0)
+    let (marked, source) = turned-inside o side upper lower within.0 within.1 in
+    (subst (λ (e : ℕ × ℕ). (e.0 < 4096) × (e.1 < 4096)) (sym are) (omega (arith, o.most), omega (arith, o.most)), (omega (arith, o.most), omega (arith, o.most)))
 
 turned-beyond : (o : Order) (side : Side) (upper lower : ℕ) → IsAbove (OverIn o) upper lower → Beyond o side (turned side upper lower).0 (turned side upper lower).1
 turned-beyond o Above upper lower h = h

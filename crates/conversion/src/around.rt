@@ -12,56 +12,45 @@ use crate::refusal::Unconverted;
 use crate::side::Side;
 
 // Which requests are led, which have a led one above them, and which have one below.
-#[derive(Drop)]
-pub(crate) struct Around {
-    order: Order,
-    led: Flags,
-    above: Flags,
-    below: Flags,
-    ghost tells_above: { ∥ Tells order Above led above ∥₁ },
-    ghost tells_below: { ∥ Tells order Below led below ∥₁ },
+#[derive(Clone, Copy)]
+pub(crate) struct Around<'a> {
+    pub(crate) order: &'a Order,
+    pub(crate) led: &'a Flags,
+    pub(crate) above: &'a Flags,
+    pub(crate) below: &'a Flags,
+    ghost tells_above: { ∥ Tells order.now Above led.now above.now ∥₁ },
+    ghost tells_below: { ∥ Tells order.now Below led.now below.now ∥₁ },
 }
 
-impl Around {
-    pub(crate) fn of(order: &Order, led: &Flags) -> Around
-        ensures { (result.order ≡ order.now) × (result.led ≡ led.now) }
-    {
-        Around {
-            order: *order,
-            led: *led,
-            above: order.beyond(Side::Above, led),
-            below: order.beyond(Side::Below, led),
-        }
-    }
-
+impl Around<'_> {
     // The lowest led requests: led, with none led below.
     fn lowest_led(&self) -> Flags
-        ensures { Flagged self.now.order (LeadFloor (OverIn self.now.order) (In self.now.order self.now.led)) result }
+        ensures { Flagged self.now.order.now (LeadFloor (OverIn self.now.order.now) (In self.now.order.now self.now.led.now)) result }
     {
-        self.led & !self.below
+        self.led & &!self.below
     }
 
     // The lowest hopeless requests: not led, with none led above.
     fn lowest_hopeless(&self) -> Flags
-        ensures { Flagged self.now.order (CounterFloor (OverIn self.now.order) (In self.now.order self.now.led)) result }
+        ensures { Flagged self.now.order.now (CounterFloor (OverIn self.now.order.now) (In self.now.order.now self.now.led.now)) result }
     {
-        self.order.lowest(&(!self.led & !self.above))
+        self.order.lowest(&(&!self.led & &!self.above))
     }
 
     // The middles of gaps: not led, with a led request above and one below.
     fn middles(&self) -> Flags
-        ensures { Flagged self.now.order (Middle self.now.order self.now.led) result }
+        ensures { Flagged self.now.order.now (Middle self.now.order.now self.now.led.now) result }
     {
-        !self.led & (self.above & self.below)
+        &!self.led & &(self.above & self.below)
     }
 
     // The first gap.
     fn first_gap(&self) -> Option<Unconverted>
-        ensures { MatchOption result (AnyGap self.now.order self.now.led → ⊥) (λ gap. Shaped self.now.order true self.now.led (Err gap)) }
+        ensures { MatchOption result (AnyGap self.now.order.now self.now.led.now → ⊥) (λ gap. Shaped self.now.order.now true self.now.led.now (Err gap)) }
     {
         let middle = self.order.first_up(&self.middles())?;
-        let upper = self.order.first_beyond(Side::Above, middle, &self.led)?;
-        let lower = self.order.first_beyond(Side::Below, middle, &self.led)?;
+        let upper = self.order.first_beyond(Side::Above, middle, self.led)?;
+        let lower = self.order.first_beyond(Side::Below, middle, self.led)?;
         Some(Unconverted::Gap {
             upper,
             middle,
@@ -71,7 +60,7 @@ impl Around {
 
     // The floors, or the first gap.
     pub(crate) fn floors(&self) -> Result<FloorFlags, Unconverted>
-        ensures { Shaped self.now.order true self.now.led result }
+        ensures { Shaped self.now.order.now true self.now.led.now result }
     {
         // a refusal where there is something: `ok_or` goes the other way
         if let Some(gap) = self.first_gap() {

@@ -8,24 +8,17 @@ use crate::flags::Flags;
 use crate::order::Order;
 use crate::side::Side;
 use ladders::{Ladder, MOST_POSTS, has};
-use rules::Request;
 
 // Functions of an order ask that a number is below `total`, here and in other files: the bound is the order's, so no type of numbers can carry it.
+// A number has its request's set in its lowest bits, one for each condition, and the post above them: so a step from one request to another is a step
+// on their numbers.
 impl Order {
     // The request with one condition more, if it lacks it.
     fn with_condition(&self, c: u8, lower: usize) -> Option<usize>
         requires { (c < self.now.conditions) × (lower < self.now.total) }
         ensures { result ≡ upper_of self.now.conditions (Condition c) lower }
     {
-        let request = self.request(lower);
-        if has(request.set, c) {
-            return None;
-        }
-        let upper = Request {
-            set: request.set | 1 << c,
-            ..request
-        };
-        upper.number(self.conditions)
+        (!has(lower as u16, c)).then_some(lower + (1 << c))
     }
 
     // The request with the upper of two posts and the same conditions, if its post is the lower one.
@@ -33,15 +26,8 @@ impl Order {
         requires { (upper_post < 8) × (lower < self.now.total) }
         ensures { result ≡ upper_of self.now.conditions (Posts upper_post lower_post) lower }
     {
-        let request = self.request(lower);
-        if usize::from(request.post) != lower_post {
-            return None;
-        }
-        let upper = Request {
-            post: upper_post as u8,
-            ..request
-        };
-        upper.number(self.conditions)
+        let set = lower & ((1 << self.conditions) - 1);
+        (lower >> self.conditions == lower_post).then_some((upper_post << self.conditions) + set)
     }
 
     // One pass over the requests, with a step from one to another above it: of two so linked, where the one on that side is of the set or marked, the

@@ -33,5 +33,11 @@ pub(crate) fn led_in(chart: &[u8], effect: Effect) -> Flags
     ensures { BytesAre (byte_of effect) chart.now (length chart.now) result }
 {
     let byte = byte_of(effect);
-    Flags::of(|r| chart.get(r) == Some(&byte))
+    let mut led = Flags::none();
+    for (r, b) in chart.iter().enumerate() {
+        if *b == byte {
+            led.raise(r);
+        }
+    }
+    led
 }

@@ -13,10 +13,9 @@ impl Order {
     pub(crate) fn of<L: Ladder>(ladder: &L, conditions: u8) -> Option<Order>
         ensures { MatchOption result (9 < conditions) (IsOrder (L.posts ladder.now) (L.at_least ladder.now) conditions) }
     {
-        let rows = LadderRows::of(ladder);
-        let total = Request::count_on(&rows, conditions)?;
+        let total = Request::count_on(ladder, conditions)?;
         Some(Order {
-            ladder: rows,
+            ladder: LadderRows::of(ladder),
             conditions,
             total,
         })

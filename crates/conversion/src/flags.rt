@@ -23,7 +23,7 @@ impl Flags {
 
     // The flags that a test puts up.
     pub(crate) fn of<F: Fn(usize) -> bool>(test: F) -> Flags
-        requires { F.IsAlwaysCallable test }
+        requires { (r : ℕ) → r < 4096 → F.pre test r }
         ensures { (r : ℕ) → r < 4096 → F.post test r (flag result r) }
     {
         Flags {
@@ -31,11 +31,12 @@ impl Flags {
         }
     }
 
-    // Whether a flag is up; one past them all is not.
+    // Whether a flag is up.
     pub(crate) fn has(&self, r: usize) -> bool
+        requires { r < 4096 }
         ensures { result ≡ flag self.now r }
     {
-        self.up.get(r) == Some(&true)
+        self.up[r]
     }
 
     // Puts one flag up.
@@ -47,22 +48,22 @@ impl Flags {
     }
 }
 
-// The flags that are up in both.
-impl BitAnd for Flags {
+// The flags that are up in both. Flags are lent to an operator, since a copy of them is long.
+impl BitAnd for &Flags {
     type Output = Flags;
 
-    ghost bitand_gives = { λ a b both. (r : ℕ) → r < 4096 → flag both r ≡ (flag a r && flag b r) };
+    ghost bitand_gives = { λ a b both. (r : ℕ) → r < 4096 → flag both r ≡ (flag a.now r && flag b.now r) };
 
-    fn bitand(self, other: Flags) -> Flags {
+    fn bitand(self, other: &Flags) -> Flags {
         Flags::of(|r| self.has(r) && other.has(r))
     }
 }
 
 // The flags that are not up.
-impl Not for Flags {
+impl Not for &Flags {
     type Output = Flags;
 
-    ghost not_gives = { λ a opposite. (r : ℕ) → r < 4096 → flag opposite r ≡ not (flag a r) };
+    ghost not_gives = { λ a opposite. (r : ℕ) → r < 4096 → flag opposite r ≡ not (flag a.now r) };
 
     fn not(self) -> Flags {
         Flags::of(|r| !self.has(r))

@@ -1,5 +1,5 @@
 // The floors of the list that decides as a policy does, or what stands in its way, from the requests that are led.
-ghost use Rattle.std.specs.Prelude.{ℕ, ◌<◌, false, Err, MatchOption};
+ghost use Rattle.std.specs.Prelude.{ℕ, ◌<◌, true, false, Err, MatchOption};
 ghost use Rattle.expressiveness.specs.Order.{Least, Minimal};
 ghost use Rattle.rules.specs.Models.{default_overrides};
 ghost use Rattle.conversion.specs.Flags.{Up};
@@ -40,14 +40,14 @@ impl Order {
     pub(crate) fn lowest(&self, members: &Flags) -> Flags
         ensures { Flagged self.now (Minimal (OverIn self.now) (In self.now members.now)) result }
     {
-        *members & !self.beyond(Side::Below, members)
+        members & &!&self.beyond(Side::Below, members)
     }
 
     // The lower requests of steps: led, with one above that is not.
     fn lowers(&self, led: &Flags) -> Flags
         ensures { Flagged self.now (Lower self.now led.now) result }
     {
-        *led & self.beyond(Side::Above, &!*led)
+        led & &self.beyond(Side::Above, &!led)
     }
 
     // The first step.
@@ -55,7 +55,7 @@ impl Order {
         ensures { MatchOption result (AnyStep self.now led.now → ⊥) (λ step. Shaped self.now false led.now (Err step)) }
     {
         let lower = self.first_up(&self.lowers(led))?;
-        let unled = !*led;
+        let unled = !led;
         let upper = self.first_beyond(Side::Above, lower, &unled)?;
         Some(Unconverted::Step { upper, lower })
     }
@@ -74,12 +74,25 @@ impl Order {
         })
     }
 
+    // The floors where the default overrides, or the first gap.
+    fn convex_floors(&self, led: &Flags) -> Result<FloorFlags, Unconverted>
+        ensures { Shaped self.now true led.now result }
+    {
+        Around {
+            order: self,
+            led,
+            above: &self.beyond(Side::Above, led),
+            below: &self.beyond(Side::Below, led),
+        }
+        .floors()
+    }
+
     // The floors of the defined list of a model, or what stands in its way.
     pub(crate) fn floors(&self, model: Model, led: &Flags) -> Result<FloorFlags, Unconverted>
         ensures { Shaped self.now (default_overrides model) led.now result }
     {
         if model.default_overrides() {
-            Around::of(self, led).floors()
+            self.convex_floors(led)
         } else {
             self.upward_floors(led)
         }

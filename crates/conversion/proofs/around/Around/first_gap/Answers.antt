@@ -5,7 +5,7 @@ use Rattle.conversion.proofs.around.Around.first_gap.Goals as goal
 pub returns-in_err-middle : goal.returns-in_err-middle
 returns-in_err-middle c =
     let a = c.args.self.now in
-    rw c.from_residual.ensures (no_gap a.order a.led c.middles.result c.middles.ensures c.in_err-middle.ensures)
+    rw c.from_residual.ensures (no_gap a.order.now a.led.now c.middles.result c.middles.ensures c.in_err-middle.ensures)
 
 pub returns-in_err-upper : goal.returns-in_err-upper
 returns-in_err-upper c =
@@ -24,6 +24,6 @@ returns c =
     let a = c.args.self.now in
     let (inside, least) = c.in_ok-middle.ensures in (
       refl,
-      gap-first a.order a.led c.middles.result c.middles.ensures c.in_ok-upper.upper c.in_ok-middle.middle c.in_ok-lower.lower inside least
+      gap-first a.order.now a.led.now c.middles.result c.middles.ensures c.in_ok-upper.upper c.in_ok-middle.middle c.in_ok-lower.lower inside least
           c.in_ok-upper.ensures c.in_ok-lower.ensures,
     )

@@ -6,5 +6,5 @@ use Rattle.conversion.proofs.around.Around.lowest_hopeless.Goals as goal
 pub returns : goal.returns
 returns c =
     let a = c.args.self.now in
-    counters-tell a.order a.led a.above c.not.result c.not-2.result c.bitand.result (told a.order a.led Above a.above a.tells_above) c.not.ensures
+    counters-tell a.order.now a.led.now a.above.now c.not.result c.not-2.result c.bitand.result (told a.order.now a.led.now Above a.above.now a.tells_above) c.not.ensures
     c.not-2.ensures c.bitand.ensures c.lowest.result c.lowest.ensures

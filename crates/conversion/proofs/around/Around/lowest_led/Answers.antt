@@ -6,4 +6,4 @@ use Rattle.conversion.proofs.around.Around.lowest_led.Goals as goal
 pub returns : goal.returns
 returns c =
     let a = c.args.self.now in
-    lowest-tells a.order a.led a.below c.not.result c.bitand.result (told a.order a.led Below a.below a.tells_below) c.not.ensures c.bitand.ensures
+    lowest-tells a.order.now a.led.now a.below.now c.not.result c.bitand.result (told a.order.now a.led.now Below a.below.now a.tells_below) c.not.ensures c.bitand.ensures

@@ -1,13 +1,26 @@
-use Rattle.std.proofs.Common.{ℕ, ◌<◌, sym, ◌∙◌, subst, inl, inr}
+use Rattle.std.proofs.Common.{sym, ◌∙◌, inl, inr, arith}
 use Rattle.std.proofs.lemmas.Bool.{false≢true}
-use Rattle.conversion.proofs.Passes.{above-inside, passed-more, passed-skip, passed-stay}
+use Rattle.conversion.proofs.Passes.{ends-inside, passed-more, passed-skip, passed-stay}
 use Rattle.conversion.proofs.order.Order.pass.Goals as goal
 use Rattle.conversion.proofs.order.Order.pass.Goals.{in-Some+then-has, then-has-via-then-has, then-has-via-else-has+then-has-2, in-Some+else-has+else-has-2, in_default}
 
+pub has-requires : goal.has-requires
+has-requires g c =
+    let ((marked, source), (upper, lower)) = ends-inside c.args.self.now c.args.side c.in-Some.upper c.loop-lower.lower c.turned-marked.result c.turned-marked.ensures
+    (c.requires.up c.loop-lower.lower c.in-Some.upper c.loop-lower-test.true c.in-Some.ensures) in
+    omega arith
+
+pub has-requires-else-has : goal.has-requires-else-has
+has-requires-else-has g c =
+    let ((marked, source), (upper, lower)) = ends-inside c.args.self.now c.args.side c.in-Some.upper c.loop-lower.lower c.turned-marked.result c.turned-marked.ensures
+    (c.requires.up c.loop-lower.lower c.in-Some.upper c.loop-lower-test.true c.in-Some.ensures) in
+    omega arith
+
 pub raise-requires : goal.raise-requires
 raise-requires g c =
-    let up = c.requires.up c.loop-lower.lower c.in-Some.upper c.loop-lower-test.true c.in-Some.ensures in
-    subst (λ (p : ℕ × ℕ). p.0 < 4096) (sym c.turned-marked.ensures) (above-inside c.args.self.now c.args.side c.in-Some.upper c.loop-lower.lower up)
+    let ((marked, source), (upper, lower)) = ends-inside c.args.self.now c.args.side c.in-Some.upper c.loop-lower.lower c.turned-marked.result c.turned-marked.ensures
+    (c.requires.up c.loop-lower.lower c.in-Some.upper c.loop-lower-test.true c.in-Some.ensures) in
+    omega arith
 
 pub loop-lower-preserved : goal.loop-lower-preserved
 loop-lower-preserved g c =

@@ -35,7 +35,7 @@ loop-place-preserved c =
     let (lt, (place, floor)) = turn c.before in
     let rule = floor_rule c.args.self.now.conditions c.args.effect in
     record {
-      can = search rules;
+      can = rw c.in-Some.is at c.next.ensures.goes.keeps;
       finite = search rules;
       put = rw (length_push, c.floor_rule.ensures, floor, place) (put-more rule (raised c.args.floors.now c.args.self.now.total) (length c.loop-place.yielded) c.loop-place.slots (omega (arith, c.loop-place.auto.slots, c.requires)) c.loop-place.invariant.put);
     }
