@@ -10,20 +10,15 @@ use Rattle.ladders.proofs.Sets.{or-holds, power-holds, zero-holds}
 
 -- the set m with the post q besides, where that post passes
 abbrev pub put : (ℕ → Bool) → ℕ → ℕ → ℕ
-put f m q = bit_or m ((cond (f q) 1 0 * 2 ^ q) % 2 ^ 8)
+put f m q = cond (f q) (bit_or m ((1 * 2 ^ q) % 2 ^ 8)) m
 
 put-holds : (f : ℕ → Bool) (m q k : ℕ) → q < 8 → holds (put f m q) k ≡ (holds m k || (eqb q k && f q))
 put-holds f m q k h =
     ⊎_elim
     (λ (t : f q ≡ true).
-    let bit : cond (f q) 1 0 ≡ 1 = ap (λ b. cond b 1 0) t in
     let at = power-holds q k in
-    ap (λ n. holds (bit_or m ((n * 2 ^ q) % 2 ^ 8)) k) bit ∙ ap (λ x. holds (bit_or m x) k) (one_shl q 8 h) ∙ or-holds m (2 ^ q) k ∙ grind (arith, nat_tests))
-    (λ (t : f q ≡ false).
-    let bit : cond (f q) 1 0 ≡ 0 = ap (λ b. cond b 1 0) t in
-    let none = zero-holds k in
-    let zeros : (0 * 2 ^ q) % 2 ^ 8 ≡ 0 = omega arith in
-    ap (λ n. holds (bit_or m ((n * 2 ^ q) % 2 ^ 8)) k) bit ∙ ap (λ x. holds (bit_or m x) k) zeros ∙ or-holds m 0 k ∙ grind (arith, nat_tests))
+    rw t (ap (λ x. holds (bit_or m x) k) (one_shl q 8 h) ∙ or-holds m (2 ^ q) k ∙ grind (arith, nat_tests)))
+    (λ (t : f q ≡ false). rw t (grind (arith, nat_tests)))
     (cases_Bool (f q))
 
 -- the n posts from a on

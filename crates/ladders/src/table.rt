@@ -11,7 +11,13 @@ use std::array;
 fn row<L: Ladder>(ladder: &L, p: usize) -> u8
     ensures { (q : ℕ) → q < 8 → holds result q ≡ L.at_least ladder.now p q }
 {
-    (0..MOST_POSTS).fold(0, |row, q| row | u8::from(ladder.at_least(p, q)) << q)
+    (0..MOST_POSTS).fold(0, |row, q| {
+        if ladder.at_least(p, q) {
+            row | 1 << q
+        } else {
+            row
+        }
+    })
 }
 
 pub fn rows<L: Ladder>(ladder: &L) -> [u8; MOST_POSTS]

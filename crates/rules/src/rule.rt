@@ -4,7 +4,7 @@ ghost use Rattle.rules.specs.Models.{opposite};
 ghost use Rattle.rules.specs.Rules.{Applies, Clear, bars_nothing, floor_of};
 
 use crate::request::{Request, are_conditions, includes};
-use ladders::{Ladder, MOST_POSTS};
+use ladders::{Ladder, MOST_POSTS, has};
 use std::ops::Not;
 
 #[derive(Clone, Copy, Debug, PartialEq, Eq)]
@@ -42,8 +42,8 @@ impl Rule {
     pub fn applies<L: Ladder>(&self, ladder: &L, request: Request) -> bool
         ensures { Decides result (Applies (L.at_least ladder.now) self.now request) }
     {
-        includes(request.set, self.needed)
-            && request.set & self.barred == 0
+        request.set & self.barred == 0
+            && includes(request.set, self.needed)
             && ladder.at_least(usize::from(request.post), usize::from(self.floor))
             && self.clears(ladder, usize::from(request.post))
     }
@@ -52,7 +52,9 @@ impl Rule {
     fn clears<L: Ladder>(&self, ladder: &L, post: usize) -> bool
         ensures { Decides result (Clear (L.at_least ladder.now) post self.now.barred_posts) }
     {
-        !(0..MOST_POSTS).any(|p| (self.barred_posts >> p) & 1 == 1 && ladder.at_least(post, p))
+        !(0..MOST_POSTS)
+            .filter(|p| has(u16::from(self.barred_posts), *p as u8))
+            .any(|p| ladder.at_least(post, p))
     }
 
     // Whether it bars no condition and no post.
